@@ -1,0 +1,24 @@
+-- What a call answers: a value, or one of document 01's refusals by its number, with the values that the document says it returns.
+-- For each answer enum of the code, one definition says which of these each of its cases is.
+use Prim.Native.Nat.{ℕ}
+use mathlib.Core.List.{List, [], _∷_}
+use Rattle.avr.specs.declared.Instruction.{Instruction}
+use Rattle.avr.specs.declared.Decoded.{Decoded}
+use Rattle.avr.specs.declared.Decoded.the-variants as decoded
+
+pub data Answer (A : Type 0) : Type 0 where
+  gives : A → Answer A
+  refuses : ℕ → List ℕ → Answer A
+
+-- 1 InvalidOpcode, with the word
+abbrev pub noSuchWord : {A : Type 0} → ℕ → Answer A
+noSuchWord w = refuses 1 (w ∷ [])
+
+-- 2 short, with the bytes needed
+abbrev pub short : {A : Type 0} → ℕ → Answer A
+short n = refuses 2 (n ∷ [])
+
+abbrev pub ofDecoded : Decoded → Answer Instruction
+ofDecoded (decoded.Instruction x) = gives x
+ofDecoded (decoded.InvalidOpcode w) = noSuchWord w
+ofDecoded (decoded.Short n) = short n

@@ -1,0 +1,8 @@
+-- What a word means, bottom up: read the modules in this order.
+pub mod Choice
+pub mod Answers
+pub mod Pattern
+pub mod Rows
+pub mod Operands
+pub mod Decode
+pub mod Count
