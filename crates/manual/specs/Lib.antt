@@ -6,3 +6,4 @@ pub mod Rows
 pub mod Operands
 pub mod Decode
 pub mod Count
+pub mod Text

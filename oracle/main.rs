@@ -1,0 +1,60 @@
+//! Prints what yaxpeax-avr 0.1.0 answers to every first word, for both targets. README.md gives the lines' form.
+
+use std::io::{self, BufWriter, Write};
+use yaxpeax_arch::{Bytes, Decoder, StandardDecodeError};
+use yaxpeax_avr::{InstDecoder, Instruction, Target};
+
+/// The second words given after a first word that takes one.
+const SECOND: [u16; 3] = [0x0000, 0x1234, 0xFFFF];
+
+/// The bytes taken and the crate's text, or the crate's error.
+type Answer = Result<(usize, String), StandardDecodeError>;
+
+/// One decode into a fresh instruction. The bytes are counted by the reader, since the crate leaves its own length at 2 for
+/// `call` and `jmp`.
+fn decode(decoder: &InstDecoder, bytes: &[u8]) -> Answer {
+    let mut instruction = Instruction::default();
+    let mut reader = Bytes::new(bytes);
+    decoder.decode_into(&mut instruction, &mut reader)?;
+    Ok((reader.taken(), instruction.to_string()))
+}
+
+fn say(answer: Answer) -> String {
+    match answer {
+        Ok((taken, text)) => format!("{taken} {text}"),
+        Err(StandardDecodeError::InvalidOpcode) => "invalid".to_string(),
+        Err(StandardDecodeError::ExhaustedInput) => "short".to_string(),
+    }
+}
+
+fn print_word(out: &mut impl Write, decoder: &InstDecoder, word: u16) -> io::Result<()> {
+    let [lo, hi] = word.to_le_bytes();
+    let answer = decode(decoder, &[lo, hi, 0, 0]);
+    if !matches!(answer, Ok((4, _))) {
+        return writeln!(out, "{word:04X} {}", say(answer));
+    }
+    for second in SECOND {
+        let [lo2, hi2] = second.to_le_bytes();
+        let answer = say(decode(decoder, &[lo, hi, lo2, hi2]));
+        writeln!(out, "{word:04X} {second:04X} {answer}")?;
+    }
+    for present in [2, 3] {
+        let answer = say(decode(decoder, &[lo, hi, 0][..present]));
+        writeln!(out, "{word:04X} {present} bytes: {answer}")?;
+    }
+    Ok(())
+}
+
+fn main() -> io::Result<()> {
+    let mut out = BufWriter::new(io::stdout().lock());
+    for has_16_bit_lds_sts in [false, true] {
+        let decoder = InstDecoder::new(Target { has_16_bit_lds_sts });
+        writeln!(out, "target {has_16_bit_lds_sts}")?;
+        writeln!(out, "0 bytes: {}", say(decode(&decoder, &[])))?;
+        writeln!(out, "1 byte: {}", say(decode(&decoder, &[0])))?;
+        for word in 0..=u16::MAX {
+            print_word(&mut out, &decoder, word)?;
+        }
+    }
+    out.flush()
+}
