@@ -1,62 +1,42 @@
+-- The rows before i do not accept the word.
+use Prim.Native.Nat.{_+_, _-_, _≤_}
+use mathlib.Core.Path.{_≡_, sym, _∙_}
+use denote.Ref.{now}
+use borrow.Author.Needs.{needs}
+use native.Mathlib.Omega.{arith}
+use native.Mathlib.Numerals.{add-one}
+use lib.ListN.{drop}
+use Rattle.manual.specs.Rows.{rows, place}
+use Rattle.rows.proofs.Places.{place-here, place-next, place-end, by-tables}
 use Rattle.rows.proofs.scan.Statement.{statement}
 use Rattle.rows.proofs.scan.Tie as tie
-use Rattle.rows.proofs.scan.Reads as reads
-use Rattle.rows.proofs.scan.Lts as lts
-use Rattle.rows.proofs.matches.Reads as matches-reads
 
 abbrev Inv-loop : tie.InvT-loop
-Inv-loop masks values targets word flag i₀ i = ?
+Inv-loop masks values targets word flag i₀ i = (i ≤ 103) × (place rows flag word ≡ i + place (drop i rows) flag word)
 
 abbrev μ-loop : tie.MeasureT-loop
-μ-loop masks values targets word flag i₀ i = ?
+μ-loop masks values targets word flag i₀ i = 103 - i
 
--- src/lib.rt:476:5
-loop-holds : tie.Need-loop-holds Inv-loop μ-loop
-loop-holds c = ?
-
--- src/lib.rt:477:20
-mul-matches : tie.Need-mul-matches Inv-loop μ-loop
-mul-matches c = ?
-
--- src/lib.rt:477:20
-element-copy-out-matches : tie.Need-element-copy-out-matches Inv-loop μ-loop
-element-copy-out-matches c = ?
-
--- src/lib.rt:477:30
-mul-matches-2 : tie.Need-mul-matches-2 Inv-loop μ-loop
-mul-matches-2 c = ?
-
--- src/lib.rt:477:30
-element-copy-out-matches-2 : tie.Need-element-copy-out-matches-2 Inv-loop μ-loop
-element-copy-out-matches-2 c = ?
-
--- src/lib.rt:477:41
-element-copy-out-matches-3 : tie.Need-element-copy-out-matches-3 Inv-loop μ-loop
-element-copy-out-matches-3 c = ?
-
--- src/lib.rt:477:12
-matches-requires : tie.Need-matches-requires Inv-loop μ-loop
-matches-requires c κs = ?
-
--- src/lib.rt:478:13
 returns : tie.Need-returns Inv-loop μ-loop
-returns c = ?
+returns c =
+    let b = c .before .before .before .before .before .before in
+    let a = b .before .args in
+    let t = by-tables (now (a .masks)) (now (a .values)) (now (a .targets)) (b .before .pre) (b .loop .i) (a .word) (a .flag) (omega arith) in
+    omega (arith, place-here (a .flag) (a .word) (b .loop .i) (omega arith) (t ∙ sym (c .before .matches .ensures) ∙ c .if1 .taken))
 
--- src/lib.rt:480:9
-add-i : tie.Need-add-i Inv-loop μ-loop
-add-i c = ?
-
--- src/lib.rt:476:5
-loop-less : tie.Need-loop-less Inv-loop μ-loop
-loop-less c = ?
-
--- src/lib.rt:476:5
 loop-again : tie.Need-loop-again Inv-loop μ-loop
-loop-again c = ?
+loop-again c =
+    let b = c .before .before .before .before .before .before in
+    let a = b .before .args in
+    let t = by-tables (now (a .masks)) (now (a .values)) (now (a .targets)) (b .before .pre) (b .loop .i) (a .word) (a .flag) (omega arith) in (
+      omega arith,
+      rw add-one (omega (arith, place-next (a .flag) (a .word) (b .loop .i) (omega arith) (t ∙ sym (c .before .matches .ensures) ∙ c .if1 .left))),
+    )
 
--- src/lib.rt:465:1
 returns-2 : tie.Need-returns-2 Inv-loop μ-loop
-returns-2 c = ?
+returns-2 c =
+    let a = c .before .before .args in
+    omega (arith, place-end (a .flag) (a .word) (c .before .loop .i) (omega arith))
 
 pub scan-spec : {M : Type 1} → statement M
 scan-spec =
@@ -64,15 +44,15 @@ scan-spec =
     (tie.spec
     Inv-loop
     μ-loop
-    loop-holds
-    mul-matches
-    element-copy-out-matches
-    mul-matches-2
-    element-copy-out-matches-2
-    element-copy-out-matches-3
-    matches-requires
+    (λ c. omega arith)
+    (λ c. search needs)
+    (λ c. search needs)
+    (λ c. search needs)
+    (λ c. search needs)
+    (λ c. search needs)
+    (λ c κs. search needs)
     returns
-    add-i
-    loop-less
+    (λ c. search needs)
+    (λ c. search needs)
     loop-again
     returns-2)
