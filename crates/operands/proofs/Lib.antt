@@ -1,0 +1,3 @@
+pub mod Negated
+pub mod Runs
+pub mod FieldBits
