@@ -1,0 +1,23 @@
+-- Two answers that a statement allows are equal: the answer enums say no more and no less than document 01's numbers and values.
+use mathlib.Core.Path.{_≡_, refl, sym, ap, _∙_}
+use mathlib.Core.Bool.{Bool}
+use mathlib.Core.List.{List}
+use Prim.Native.Nat.{ℕ}
+use Rattle.avr.specs.declared.Decoded.{Decoded}
+use Rattle.avr.specs.declared.Decoded.the-variants as decoded
+use Rattle.manual.specs.Answers.{ofDecoded}
+use Rattle.manual.specs.Decode.{decodes}
+
+decoded-injective : (a b : Decoded) → ofDecoded a ≡ ofDecoded b → a ≡ b
+decoded-injective (decoded.Instruction x) (decoded.Instruction y) e = cc
+decoded-injective (decoded.Instruction x) (decoded.InvalidOpcode w) e = cc
+decoded-injective (decoded.Instruction x) (decoded.Short n) e = cc
+decoded-injective (decoded.InvalidOpcode v) (decoded.Instruction y) e = cc
+decoded-injective (decoded.InvalidOpcode v) (decoded.InvalidOpcode w) e = cc
+decoded-injective (decoded.InvalidOpcode v) (decoded.Short n) e = cc
+decoded-injective (decoded.Short m) (decoded.Instruction y) e = cc
+decoded-injective (decoded.Short m) (decoded.InvalidOpcode w) e = cc
+decoded-injective (decoded.Short m) (decoded.Short n) e = cc
+
+pub decode-unique : (flag : Bool) (bs : List ℕ) (a b : Decoded) → ofDecoded a ≡ decodes flag bs → ofDecoded b ≡ decodes flag bs → a ≡ b
+decode-unique flag bs a b p q = decoded-injective a b (p ∙ sym q)
