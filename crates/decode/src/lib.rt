@@ -1,54 +1,19 @@
 // Decoding: the record of the instruction that bytes begin with.
 ghost use mathlib.Core.Path.{_≡_};
-ghost use Prim.Native.Nat.{_+_, _/_, _%_, _<_};
-ghost use lib.ListN.{length};
+ghost use Prim.Native.Nat.{_<_};
 ghost use Rattle.manual.specs.Answers.{ofDecoded};
-ghost use Rattle.manual.specs.Decode.{wordAt, rowInstruction, decodes};
-ghost use Rattle.rows.specs.Columns.{rowAt, formAt, formList};
-ghost use Rattle.decode.specs.Forms.{sregFrom, bytesFrom};
+ghost use Rattle.manual.specs.Decode.{rowInstruction, decodes};
+ghost use Rattle.rows.specs.Columns.{rowAt, formAt};
+
+pub mod helper;
+
 use avr::Decoded;
 use avr::Instruction;
 use avr::Target;
+use helper::form_bytes;
+use helper::sreg_bit;
+use helper::word_at;
 use rows::tables::FORMS;
-
-// The number of the SREG bit of a word, by the place that the form says.
-pub fn sreg_bit(place: u32, w: u16) -> u8
-    ensures { λ r. ⌜ r ≡ sregFrom place w ⌝ }
-{
-    if place == 1 {
-        return (w % 8) as u8;
-    }
-    if place == 2 {
-        return (w / 16 % 8) as u8;
-    }
-    0
-}
-
-// How many bytes an instruction of this form has.
-pub fn form_bytes(form: u32) -> u8
-    ensures { λ r. ⌜ r ≡ bytesFrom form ⌝ }
-{
-    if form / 524288 == 0 {
-        return 2;
-    }
-    4
-}
-
-fn wide(b: u8) -> u16
-    ensures { λ r. ⌜ (r ≡ b) × (r < 256) ⌝ }
-{
-    b as u16
-}
-
-// The word at an offset. A helper: both of its bytes are there.
-pub fn word_at(bytes: &[u8], at: usize) -> u16
-    requires { ⌜ at + 1 < length (now bytes) ⌝ }
-    ensures { λ r. ⌜ r ≡ wordAt (now (bytes .entry)) at ⌝ }
-{
-    let lo = bytes[at];
-    let hi = bytes[at + 1];
-    wide(lo) + wide(hi) * 256
-}
 
 // The form of a row.
 fn form_at(i: usize) -> u32

@@ -42,7 +42,6 @@ fn near(half: u16, k: u16) -> i16
 
 // The address of a 16-bit lds or sts.
 pub fn low_address(k: u8) -> u32
-    requires { ⌜ k < 128 ⌝ }
     ensures { λ r. ⌜ r ≡ lowOf k ⌝ }
 {
     let b = (k / 16 % 2) as u32;
@@ -51,7 +50,6 @@ pub fn low_address(k: u8) -> u32
 
 // A program address in bytes.
 pub fn far_address(k: u8, e: u16) -> u32
-    requires { ⌜ k < 64 ⌝ }
     ensures { λ r. ⌜ r ≡ farOf k e ⌝ }
 {
     (k as u32 * 65536 + e as u32) * 2

@@ -1,71 +1,24 @@
 // The opcode rows as constant tables, the search for the row of a word, and the number of words that the rows accept.
 ghost use mathlib.Core.Path.{_≡_};
 ghost use Prim.Native.Nat.{_<_};
-ghost use lib.Dec.{eqb};
-ghost use lib.Bits.{bitAnd};
-ghost use Rattle.manual.specs.Choice.{both};
 ghost use Rattle.manual.specs.Rows.{rows, place};
 ghost use Rattle.manual.specs.Count.{acceptedWords};
 ghost use Rattle.manual.specs.Pattern.{symbols};
-ghost use Rattle.rows.specs.Columns.{maskOf, targetCode, hasCode, maskList, valueList, targetList, rowAt};
+ghost use Rattle.rows.specs.Columns.{maskOf, targetCode, rowAt};
 ghost use Rattle.rows.specs.Words.{wordsOf, wordsFor};
 
+pub mod helper;
 pub mod tables;
 
 use tables::MASKS;
 use tables::TARGETS;
 use tables::VALUES;
 
-// A target has a row of this code.
-fn has_target(t: u8, flag: bool) -> bool
-    ensures { λ r. ⌜ r ≡ hasCode t flag ⌝ }
-{
-    if t == 0 {
-        return true;
-    }
-    if t == 1 {
-        return flag;
-    }
-    !flag
-}
-
-// The fixed bits of a word are a row's, and the target has the row.
-fn matches(m: u16, v: u16, t: u8, word: u16, flag: bool) -> bool
-    ensures { λ r. ⌜ r ≡ both (eqb (bitAnd word m) v) (hasCode t flag) ⌝ }
-{
-    if word & m == v {
-        return has_target(t, flag);
-    }
-    false
-}
-
-// The place of the first row that accepts the word, or 103. A helper: whoever looks up many words lends the tables once, since a
-// constant is copied to the stack wherever a function names it.
-pub fn scan(
-    masks: &[u16; 103],
-    values: &[u16; 103],
-    targets: &[u8; 103],
-    word: u16,
-    flag: bool,
-) -> usize
-    requires { ⌜ (now masks ≡ maskList) × (now values ≡ valueList) × (now targets ≡ targetList) ⌝ }
-    ensures { λ r. ⌜ r ≡ place rows flag word ⌝ }
-{
-    let mut i: usize = 0;
-    while i < 103 {
-        if matches(masks[i], values[i], targets[i], word, flag) {
-            return i;
-        }
-        i += 1;
-    }
-    i
-}
-
 // The place of the first row that accepts the word for a target with this flag, or 103.
 pub fn find_row(word: u16, flag: bool) -> usize
     ensures { λ r. ⌜ r ≡ place rows flag word ⌝ }
 {
-    scan(&MASKS, &VALUES, &TARGETS, word, flag)
+    helper::scan(&MASKS, &VALUES, &TARGETS, word, flag)
 }
 
 // The mask of a row.
@@ -97,7 +50,7 @@ fn words_for(i: usize, flag: bool) -> u32
     requires { ⌜ i < 103 ⌝ }
     ensures { λ r. ⌜ r ≡ wordsFor (rowAt i) flag ⌝ }
 {
-    if has_target(target_at(i), flag) {
+    if helper::has_target(target_at(i), flag) {
         return row_words(i);
     }
     0

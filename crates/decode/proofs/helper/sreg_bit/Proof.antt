@@ -1,8 +1,8 @@
 -- The bits of each place, and 0 elsewhere.
 use borrow.Author.Needs.{needs}
 use Rattle.decode.proofs.Shapes.{sreg-else}
-use Rattle.decode.proofs.sreg_bit.Statement.{statement}
-use Rattle.decode.proofs.sreg_bit.Tie as tie
+use Rattle.decode.proofs.helper.sreg_bit.Statement.{statement}
+use Rattle.decode.proofs.helper.sreg_bit.Tie as tie
 
 returns-3 : tie.Need-returns-3
 returns-3 c = sreg-else (c .before .before .args .place) (c .before .before .args .w) (c .before .if1 .left) (c .if2 .left)

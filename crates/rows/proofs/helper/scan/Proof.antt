@@ -8,8 +8,8 @@ use native.Mathlib.Numerals.{add-one}
 use lib.ListN.{drop}
 use Rattle.manual.specs.Rows.{rows, place}
 use Rattle.rows.proofs.Places.{place-here, place-next, place-end, by-tables}
-use Rattle.rows.proofs.scan.Statement.{statement}
-use Rattle.rows.proofs.scan.Tie as tie
+use Rattle.rows.proofs.helper.scan.Statement.{statement}
+use Rattle.rows.proofs.helper.scan.Tie as tie
 
 abbrev Inv-loop : tie.InvT-loop
 Inv-loop masks values targets word flag i₀ i = (i ≤ 103) × (place rows flag word ≡ i + place (drop i rows) flag word)

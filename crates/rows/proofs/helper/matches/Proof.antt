@@ -1,8 +1,8 @@
 -- The test of the fixed bits first, since most rows fail it.
 use borrow.Author.Needs.{needs}
 use borrow.Author.Tests.{eq-eqb, ne-eqb}
-use Rattle.rows.proofs.matches.Statement.{statement}
-use Rattle.rows.proofs.matches.Tie as tie
+use Rattle.rows.proofs.helper.matches.Statement.{statement}
+use Rattle.rows.proofs.helper.matches.Tie as tie
 
 pub matches-spec : {M : Type 1} → statement M
 matches-spec =

@@ -1,7 +1,7 @@
 -- The form's last part is 0 for two bytes.
 use borrow.Author.Tests.{eq-eqb, ne-eqb}
-use Rattle.decode.proofs.form_bytes.Statement.{statement}
-use Rattle.decode.proofs.form_bytes.Tie as tie
+use Rattle.decode.proofs.helper.form_bytes.Statement.{statement}
+use Rattle.decode.proofs.helper.form_bytes.Tie as tie
 
 pub form-bytes-spec : {M : Type 1} → statement M
 form-bytes-spec =
