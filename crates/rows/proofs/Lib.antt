@@ -5,3 +5,4 @@ pub mod Forms
 pub mod Apart
 pub mod Words
 pub mod Count
+pub mod Unique
