@@ -143,6 +143,28 @@ pub enum Decoded {
     Short(u8),
 }
 
+// A line of a listing: an instruction, the word that no row fits, one byte of what is left where decoding fell short, or none where
+// the image ends.
+pub enum Line {
+    Instruction(Instruction),
+    Word(u16),
+    Byte(u8),
+    End,
+}
+
+// A line taken, and the state of the walk behind it.
+pub struct Taken {
+    pub line: Line,
+    pub at: usize,
+    pub tail: bool,
+}
+
+// Whether a walk may begin.
+pub enum Begun {
+    Ready,
+    TooLong,
+}
+
 // An opcode in numbers: its code, and the number of the SREG bit that four of the opcodes hold, 0 for the others.
 pub struct OpcodeNumber {
     pub code: u8,

@@ -5,6 +5,8 @@ use mathlib.Core.List.{List, [], _∷_}
 use Rattle.avr.specs.declared.Instruction.{Instruction}
 use Rattle.avr.specs.declared.Decoded.{Decoded}
 use Rattle.avr.specs.declared.Decoded.the-variants as decoded
+use Rattle.avr.specs.declared.Begun.{Begun}
+use Rattle.avr.specs.declared.Begun.the-variants as begun
 
 pub data Answer (A : Type 0) : Type 0 where
   gives : A → Answer A
@@ -18,7 +20,16 @@ noSuchWord w = refuses 1 (w ∷ [])
 abbrev pub short : {A : Type 0} → ℕ → Answer A
 short n = refuses 2 (n ∷ [])
 
+-- 5 image too long, with nothing
+abbrev pub tooLong : {A : Type 0} → Answer A
+tooLong = refuses 5 []
+
 abbrev pub ofDecoded : Decoded → Answer Instruction
 ofDecoded (decoded.Instruction x) = gives x
 ofDecoded (decoded.InvalidOpcode w) = noSuchWord w
 ofDecoded (decoded.Short n) = short n
+
+-- a walk that may begin gives nothing but that
+abbrev pub ofBegun : Begun → Answer (Unit {0})
+ofBegun begun.Ready = gives tt
+ofBegun begun.TooLong = tooLong

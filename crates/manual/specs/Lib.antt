@@ -7,3 +7,5 @@ pub mod Operands
 pub mod Decode
 pub mod Count
 pub mod Text
+pub mod Lines
+pub mod Listing

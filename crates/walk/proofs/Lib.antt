@@ -1,0 +1,5 @@
+pub mod Along
+pub mod At
+pub mod Theorems
+pub mod Takings
+pub mod Unique

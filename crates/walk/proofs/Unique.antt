@@ -1,0 +1,31 @@
+-- Two answers that a statement allows are equal.
+use mathlib.Core.Path.{_≡_, refl, sym, _∙_}
+use mathlib.Core.Bool.{Bool}
+use mathlib.Core.List.{List}
+use Prim.Native.Nat.{ℕ}
+use Rattle.avr.specs.declared.Begun.{Begun}
+use Rattle.avr.specs.declared.Begun.the-variants as begun
+use Rattle.avr.specs.declared.Line.{Line}
+use Rattle.avr.specs.declared.Taken.{Taken}
+use Rattle.manual.specs.Answers.{ofBegun}
+use Rattle.manual.specs.Lines.{begins, lineAt, takenAt, countBefore}
+
+pub begun-injective : (a b : Begun) → ofBegun a ≡ ofBegun b → a ≡ b
+begun-injective begun.Ready begun.Ready e = refl
+begun-injective begun.Ready begun.TooLong e = cc
+begun-injective begun.TooLong begun.Ready e = cc
+begun-injective begun.TooLong begun.TooLong e = refl
+
+module _ (image : List ℕ) where
+  pub may-begin-unique : (a b : Begun) → ofBegun a ≡ begins image → ofBegun b ≡ begins image → a ≡ b
+  may-begin-unique a b p q = begun-injective a b (p ∙ sym q)
+
+  module _ (flag : Bool) (at : ℕ) (tail : Bool) where
+    pub line-at-unique : (a b : Line) → a ≡ lineAt flag image at tail → b ≡ lineAt flag image at tail → a ≡ b
+    line-at-unique a b p q = p ∙ sym q
+
+    pub step-unique : (a b : Taken) → a ≡ takenAt flag image at tail → b ≡ takenAt flag image at tail → a ≡ b
+    step-unique a b p q = p ∙ sym q
+
+    pub count-before-unique : (a b : ℕ) → a ≡ countBefore flag image at → b ≡ countBefore flag image at → a ≡ b
+    count-before-unique a b p q = p ∙ sym q
