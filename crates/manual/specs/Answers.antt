@@ -5,6 +5,10 @@ use mathlib.Core.List.{List, [], _∷_}
 use Rattle.avr.specs.declared.Instruction.{Instruction}
 use Rattle.avr.specs.declared.Decoded.{Decoded}
 use Rattle.avr.specs.declared.Decoded.the-variants as decoded
+use Rattle.avr.specs.declared.Str.{Str}
+use Rattle.avr.specs.declared.Str.the-variants as str
+use Rattle.avr.specs.declared.Strings.{Strings}
+use Rattle.avr.specs.declared.Strings.the-variants as strings
 
 pub data Answer (A : Type 0) : Type 0 where
   gives : A → Answer A
@@ -22,3 +26,13 @@ abbrev pub ofDecoded : Decoded → Answer Instruction
 ofDecoded (decoded.Instruction x) = gives x
 ofDecoded (decoded.InvalidOpcode w) = noSuchWord w
 ofDecoded (decoded.Short n) = short n
+
+-- the reverse reading refuses nothing: it gives a list of strings
+abbrev pub bytesOf : Str → List ℕ
+bytesOf (str.Short a b) = a ∷ b ∷ []
+bytesOf (str.Long a b c d) = a ∷ b ∷ c ∷ d ∷ []
+
+abbrev pub stringsOf : Strings → List (List ℕ)
+stringsOf strings.None = []
+stringsOf (strings.One s) = bytesOf s ∷ []
+stringsOf (strings.Two s t) = bytesOf s ∷ bytesOf t ∷ []

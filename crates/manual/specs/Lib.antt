@@ -7,3 +7,4 @@ pub mod Operands
 pub mod Decode
 pub mod Count
 pub mod Text
+pub mod Reverse
