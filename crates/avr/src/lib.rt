@@ -171,6 +171,19 @@ pub struct OpcodeNumber {
     pub bit: u8,
 }
 
+// A string of two bytes or of four.
+pub enum Str {
+    Short(u8, u8),
+    Long(u8, u8, u8, u8),
+}
+
+// What the reverse reading lists.
+pub enum Strings {
+    None,
+    One(Str),
+    Two(Str, Str),
+}
+
 pub fn sreg_of(n: u8) -> SREGBit
     ensures { λ r. ⌜ r ≡ sregOf n ⌝ }
 {

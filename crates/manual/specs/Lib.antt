@@ -9,3 +9,4 @@ pub mod Count
 pub mod Text
 pub mod Lines
 pub mod Listing
+pub mod Reverse
