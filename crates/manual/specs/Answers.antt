@@ -5,15 +5,12 @@ use mathlib.Core.List.{List, [], _∷_}
 use Rattle.avr.specs.declared.Instruction.{Instruction}
 use Rattle.avr.specs.declared.Decoded.{Decoded}
 use Rattle.avr.specs.declared.Decoded.the-variants as decoded
-<<<<<<< HEAD
 use Rattle.avr.specs.declared.Begun.{Begun}
 use Rattle.avr.specs.declared.Begun.the-variants as begun
-=======
 use Rattle.avr.specs.declared.Str.{Str}
 use Rattle.avr.specs.declared.Str.the-variants as str
 use Rattle.avr.specs.declared.Strings.{Strings}
 use Rattle.avr.specs.declared.Strings.the-variants as strings
->>>>>>> aa6d49c3aff0924491f06566bd20368761dd9479
 
 pub data Answer (A : Type 0) : Type 0 where
   gives : A → Answer A
@@ -36,12 +33,11 @@ ofDecoded (decoded.Instruction x) = gives x
 ofDecoded (decoded.InvalidOpcode w) = noSuchWord w
 ofDecoded (decoded.Short n) = short n
 
-<<<<<<< HEAD
 -- a walk that may begin gives nothing but that
 abbrev pub ofBegun : Begun → Answer (Unit {0})
 ofBegun begun.Ready = gives tt
 ofBegun begun.TooLong = tooLong
-=======
+
 -- the reverse reading refuses nothing: it gives a list of strings
 abbrev pub bytesOf : Str → List ℕ
 bytesOf (str.Short a b) = a ∷ b ∷ []
@@ -51,4 +47,3 @@ abbrev pub stringsOf : Strings → List (List ℕ)
 stringsOf strings.None = []
 stringsOf (strings.One s) = bytesOf s ∷ []
 stringsOf (strings.Two s t) = bytesOf s ∷ bytesOf t ∷ []
->>>>>>> aa6d49c3aff0924491f06566bd20368761dd9479
