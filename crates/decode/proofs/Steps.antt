@@ -50,16 +50,15 @@ module _ (flag : Bool) (bs : List ℕ) where
       at-row : decodes flag bs ≡ withRow (rowAt i) bs
       at-row = base ∙ rw (lt-leb (length rows) i (rw row-count h))
 
-      pub two : bytesFrom (formAt i) ≡ 2 → (x : Instruction) → x ≡ rowInstruction (rowAt i) w 0 → gives x ≡ decodes flag bs
-      two e x p =
-          ap gives (p ∙ ap (λ (v : ℕ). rowInstruction (rowAt i) v 0) hw)
+      pub two : bytesFrom (formAt i) ≡ 2 → gives (rowInstruction (rowAt i) w 0) ≡ decodes flag bs
+      two e =
+          ap (λ (v : ℕ). gives (rowInstruction (rowAt i) v 0)) hw
           ∙ sym (at-row ∙ rw (eq-eqb (rowAt i .bytes) 2 (sym (bytes-are i h) ∙ e)))
 
       pub short-4 : (bytesFrom (formAt i) ≡ 2 → ⊥) → length bs < 4 → short 4 ≡ decodes flag bs
       short-4 n g = sym (at-row ∙ rw (ne-eqb (rowAt i .bytes) 2 (λ e. n (bytes-are i h ∙ e)), lt-ltb (length bs) 4 g))
 
-      pub four : (bytesFrom (formAt i) ≡ 2 → ⊥) → 4 ≤ length bs → (e : ℕ) → e ≡ wordAt bs 2 → (x : Instruction) → x ≡ rowInstruction (rowAt i) w e
-          → gives x ≡ decodes flag bs
-      four n g e he x p =
-          ap gives (p ∙ ap (λ (v : ℕ). rowInstruction (rowAt i) v e) hw ∙ ap (rowInstruction (rowAt i) (wordAt bs 0)) he)
+      pub four : (bytesFrom (formAt i) ≡ 2 → ⊥) → 4 ≤ length bs → (e : ℕ) → e ≡ wordAt bs 2 → gives (rowInstruction (rowAt i) w e) ≡ decodes flag bs
+      four n g e he =
+          ap gives (ap (λ (v : ℕ). rowInstruction (rowAt i) v e) hw ∙ ap (rowInstruction (rowAt i) (wordAt bs 0)) he)
           ∙ sym (at-row ∙ rw (ne-eqb (rowAt i .bytes) 2 (λ k. n (bytes-are i h ∙ k)), le-ltb (length bs) 4 g))

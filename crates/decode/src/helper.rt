@@ -2,8 +2,9 @@
 ghost use mathlib.Core.Path.{_≡_};
 ghost use Prim.Native.Nat.{_+_, _<_};
 ghost use lib.ListN.{length};
-ghost use Rattle.manual.specs.Decode.{wordAt};
+ghost use Rattle.manual.specs.Decode.{wordAt, decodes};
 ghost use Rattle.decode.specs.Forms.{sregFrom, bytesFrom};
+ghost use Rattle.decode.specs.Found.{Tables, ofFound, Known};
 
 // The number of the SREG bit of a word, by the place that the form says.
 pub fn sreg_bit(place: u32, w: u16) -> u8
@@ -42,4 +43,57 @@ pub fn word_at(bytes: &[u8], at: usize) -> u16
     let lo = bytes[at];
     let hi = bytes[at + 1];
     wide(lo) + wide(hi) * 256
+}
+
+// What the bytes begin with: a row, by its place and its form, with the words; or what decoding refuses.
+pub enum Found {
+    Row {
+        row: usize,
+        form: u32,
+        word: u16,
+        extra: u16,
+    },
+    InvalidOpcode(u16),
+    Short(u8),
+}
+
+// The search that decoding and listing share. Whoever reads many instructions lends the tables once.
+pub fn find(
+    masks: &[u16; 103],
+    values: &[u16; 103],
+    targets: &[u8; 103],
+    forms: &[u32; 103],
+    bytes: &[u8],
+    flag: bool,
+) -> Found
+    requires { ⌜ Tables (now masks) (now values) (now targets) (now forms) ⌝ }
+    ensures { λ r. ⌜ (ofFound r ≡ decodes flag (now (bytes .entry))) × Known r ⌝ }
+{
+    if bytes.len() < 2 {
+        return Found::Short(2);
+    }
+    let word = word_at(bytes, 0);
+    let row = rows::helper::scan(masks, values, targets, word, flag);
+    if 103 <= row {
+        return Found::InvalidOpcode(word);
+    }
+    let form = forms[row];
+    if form_bytes(form) == 2 {
+        return Found::Row {
+            row,
+            form,
+            word,
+            extra: 0,
+        };
+    }
+    if bytes.len() < 4 {
+        return Found::Short(4);
+    }
+    let extra = word_at(bytes, 2);
+    Found::Row {
+        row,
+        form,
+        word,
+        extra,
+    }
 }

@@ -10,18 +10,14 @@ pub mod helper;
 use avr::Decoded;
 use avr::Instruction;
 use avr::Target;
+use helper::Found;
+use helper::find;
 use helper::form_bytes;
 use helper::sreg_bit;
-use helper::word_at;
 use rows::tables::FORMS;
-
-// The form of a row.
-fn form_at(i: usize) -> u32
-    requires { ⌜ i < 103 ⌝ }
-    ensures { λ r. ⌜ r ≡ formAt i ⌝ }
-{
-    FORMS[i]
-}
+use rows::tables::MASKS;
+use rows::tables::TARGETS;
+use rows::tables::VALUES;
 
 // The record of a row, by its form, the first word and the second.
 fn instruction(i: usize, form: u32, w: u16, e: u16) -> Instruction
@@ -44,21 +40,22 @@ fn instruction(i: usize, form: u32, w: u16, e: u16) -> Instruction
 pub fn decode(bytes: &[u8], target: Target) -> Decoded
     ensures { λ r. ⌜ ofDecoded r ≡ decodes (target .has_16_bit_lds_sts) (now (bytes .entry)) ⌝ }
 {
-    if bytes.len() < 2 {
-        return Decoded::Short(2);
+    let found = find(
+        &MASKS,
+        &VALUES,
+        &TARGETS,
+        &FORMS,
+        bytes,
+        target.has_16_bit_lds_sts,
+    );
+    match found {
+        Found::Row {
+            row,
+            form,
+            word,
+            extra,
+        } => Decoded::Instruction(instruction(row, form, word, extra)),
+        Found::InvalidOpcode(word) => Decoded::InvalidOpcode(word),
+        Found::Short(needed) => Decoded::Short(needed),
     }
-    let w = word_at(bytes, 0);
-    let i = rows::find_row(w, target.has_16_bit_lds_sts);
-    if 103 <= i {
-        return Decoded::InvalidOpcode(w);
-    }
-    let form = form_at(i);
-    if form_bytes(form) == 2 {
-        return Decoded::Instruction(instruction(i, form, w, 0));
-    }
-    if bytes.len() < 4 {
-        return Decoded::Short(4);
-    }
-    let e = word_at(bytes, 2);
-    Decoded::Instruction(instruction(i, form, w, e))
 }
