@@ -1,2 +1,3 @@
 pub mod Below
 pub mod NameTable
+pub mod Distance
