@@ -8,6 +8,7 @@ ghost use Rattle.manual.specs.Text.{chars, decimal, registerText, relativeText,
 ghost use Rattle.rows.specs.Kinds.{kindValue};
 ghost use Rattle.operands.specs.Signed.{signed};
 ghost use Rattle.put.specs.Put.{Put};
+use operands::far_address;
 use operands::fields::a5;
 use operands::fields::a6;
 use operands::fields::d2;
@@ -24,7 +25,6 @@ use operands::fields::r3;
 use operands::fields::r4;
 use operands::fields::r5;
 use operands::fields::s7;
-use operands::far_address;
 use operands::low_address;
 use put::put_both;
 use put::put_byte;

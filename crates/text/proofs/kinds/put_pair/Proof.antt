@@ -19,4 +19,4 @@ put-pair-spec =
     (λ c κs. search needs)
     (λ c. search needs)
     (λ c.
-      rw (append-assoc _ _ _) at (then (then (c .before .before .before .before .before .before .before .before .before .before .put-register .ensures .0) (c .before .before .before .before .before .before .put-byte .ensures)) (c .before .before .put-register2 .ensures .0))))
+    rw (append-assoc _ _ _) at (then (then (c .before .before .before .before .before .before .before .before .before .before .put-register .ensures .0) (c .before .before .before .before .before .before .put-byte .ensures)) (c .before .before .put-register2 .ensures .0))))
