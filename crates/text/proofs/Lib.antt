@@ -1,2 +1,4 @@
 pub mod Below
 pub mod NameTable
+pub mod Distance
+pub mod Lengths

@@ -1,2 +1,3 @@
 // The text of a record.
+pub mod kinds;
 pub mod names;

@@ -2,8 +2,10 @@
 ghost use mathlib.Core.Path.{_≡_};
 ghost use Prim.Native.Nat.{_+_, _/_, _%_, _<_, _≤_};
 ghost use lib.ListN.{length};
+ghost use Rattle.decode.specs.Forms.{sregFrom};
 ghost use Rattle.put.specs.Put.{Put};
-ghost use Rattle.text.specs.Names.{nameAt, nameBytes, nameLengths, nameNumber, sregBits};
+ghost use Rattle.text.specs.Names.{nameAt, nameBytes, nameLengths, nameNumber};
+use decode::helper::sreg_bit;
 
 // those of the opcodes that have one name, by the opcode's code; behind them, eight each, those of the opcodes that hold an SREG bit
 pub const NAMES: [u8; 660] = *b"\
@@ -134,17 +136,14 @@ pub const LENGTHS: [u8; 110] = [
 
 // The number of a row's name, by the row's form and the first word.
 pub fn name_number(form: u32, w: u16) -> usize
-    ensures { λ r. ⌜ r ≡ nameNumber (form % 128) (form / 131072 % 4) (sregBits (form / 131072 % 4) w) ⌝ }
+    ensures { λ r. ⌜ r ≡ nameNumber (form % 128) (form / 131072 % 4) (sregFrom (form / 131072 % 4) w) ⌝ }
 {
     let code = (form % 128) as usize;
     let place = form / 131072 % 4;
     if place == 0 {
         return code;
     }
-    if place == 1 {
-        return 54 + (code + 1) / 2 * 8 + (w % 8) as usize;
-    }
-    54 + (code + 1) / 2 * 8 + (w / 16 % 8) as usize
+    54 + (code + 1) / 2 * 8 + sreg_bit(place, w) as usize
 }
 
 // A helper: whoever writes many names lends the tables once.
