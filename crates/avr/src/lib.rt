@@ -165,10 +165,11 @@ pub enum Begun {
     TooLong,
 }
 
-// An opcode in numbers: its code, and the number of the SREG bit that four of the opcodes hold, 0 for the others.
-pub struct OpcodeNumber {
-    pub code: u8,
-    pub bit: u8,
+// What encoding answers: the two or four bytes, or that no bytes decode to the record.
+pub enum Encoded {
+    Two(u8, u8),
+    Four(u8, u8, u8, u8),
+    NoSuchRecord,
 }
 
 // A string of two bytes or of four.
@@ -182,6 +183,26 @@ pub enum Strings {
     None,
     One(Str),
     Two(Str, Str),
+}
+
+// An opcode in numbers: its code, and the number of the SREG bit that four of the opcodes hold, 0 for the others.
+pub struct OpcodeNumber {
+    pub code: u8,
+    pub bit: u8,
+}
+
+// An operand in numbers: what it is, and its number.
+pub struct OperandNumber {
+    pub class: u8,
+    pub number: u32,
+}
+
+// A record in numbers.
+pub struct Numbers {
+    pub opcode: OpcodeNumber,
+    pub first: OperandNumber,
+    pub second: OperandNumber,
+    pub length: u8,
 }
 
 pub fn sreg_of(n: u8) -> SREGBit

@@ -24,7 +24,7 @@ use Rattle.rows.proofs.Forms.{form-code, form-first, form-second, form-sreg, fo
 use Rattle.operands.proofs.Runs.{run-bits}
 use Rattle.decode.specs.Forms.{sregFrom, bytesFrom}
 
-map-map : {L M N : Type 0} (g : M → N) (f : L → M) (a : Arg L) → mapArg (λ x. g (f x)) a ≡ mapArg g (mapArg f a)
+pub map-map : {L M N : Type 0} (g : M → N) (f : L → M) (a : Arg L) → mapArg (λ x. g (f x)) a ≡ mapArg g (mapArg f a)
 map-map g f arg.nothing = refl
 map-map g f (arg.reg x) = refl
 map-map g f (arg.high x) = refl

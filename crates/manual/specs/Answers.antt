@@ -11,6 +11,8 @@ use Rattle.avr.specs.declared.Str.{Str}
 use Rattle.avr.specs.declared.Str.the-variants as str
 use Rattle.avr.specs.declared.Strings.{Strings}
 use Rattle.avr.specs.declared.Strings.the-variants as strings
+use Rattle.avr.specs.declared.Encoded.{Encoded}
+use Rattle.avr.specs.declared.Encoded.the-variants as encoded
 
 pub data Answer (A : Type 0) : Type 0 where
   gives : A → Answer A
@@ -24,6 +26,10 @@ noSuchWord w = refuses 1 (w ∷ [])
 abbrev pub short : {A : Type 0} → ℕ → Answer A
 short n = refuses 2 (n ∷ [])
 
+-- 4 no such record
+abbrev pub noSuchRecord : {A : Type 0} → Answer A
+noSuchRecord = refuses 4 []
+
 -- 5 image too long, with nothing
 abbrev pub tooLong : {A : Type 0} → Answer A
 tooLong = refuses 5 []
@@ -32,6 +38,11 @@ abbrev pub ofDecoded : Decoded → Answer Instruction
 ofDecoded (decoded.Instruction x) = gives x
 ofDecoded (decoded.InvalidOpcode w) = noSuchWord w
 ofDecoded (decoded.Short n) = short n
+
+abbrev pub ofEncoded : Encoded → Answer (List ℕ)
+ofEncoded (encoded.Two a b) = gives (a ∷ b ∷ [])
+ofEncoded (encoded.Four a b c d) = gives (a ∷ b ∷ c ∷ d ∷ [])
+ofEncoded encoded.NoSuchRecord = noSuchRecord
 
 -- a walk that may begin gives nothing but that
 abbrev pub ofBegun : Begun → Answer (Unit {0})

@@ -5,6 +5,9 @@ pub mod Pattern
 pub mod Rows
 pub mod Operands
 pub mod Decode
+pub mod Numbers
+pub mod Ways
+pub mod Encode
 pub mod Count
 pub mod Text
 pub mod Lines

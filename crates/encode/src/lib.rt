@@ -1,0 +1,1 @@
+// Encoding: the bytes of a record.
