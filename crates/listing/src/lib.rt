@@ -1,0 +1,3 @@
+// The listing of an image into a lent buffer.
+pub mod helper;
+mod stub;
