@@ -4,3 +4,4 @@ pub mod Distance
 pub mod Lengths
 pub mod RowText
 pub mod Longest
+pub mod Pieces

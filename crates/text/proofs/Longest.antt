@@ -30,7 +30,7 @@ led-length by o rest = go (isNothing o)
     go true = omega arith
     go false = simp length-append (omega arith)
 
-most-seven : (a : Arg (List Bool)) → mostOf a ≤ 7
+pub most-seven : (a : Arg (List Bool)) → mostOf a ≤ 7
 most-seven nothing = lit≤ tt
 most-seven (reg s) = lit≤ tt
 most-seven (high s) = lit≤ tt

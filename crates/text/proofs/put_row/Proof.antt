@@ -1,85 +1,28 @@
+-- The pieces, one after the other.
+use mathlib.Core.Path.{_≡_}
+use Prim.Native.Nat.{_≤_, _<_}
+use Rattle.text.proofs.NameTable.{name-short}
+use Rattle.text.proofs.Pieces.{number-lt, behind-first, before-second, name-only, with-first, with-both}
 use borrow.Author.Needs.{needs}
+use native.Mathlib.Omega.{arith}
 use Rattle.text.proofs.put_row.Statement.{statement}
 use Rattle.text.proofs.put_row.Tie as tie
-use Rattle.text.proofs.put_row.Reads as reads
-use Rattle.text.proofs.put_row.Lts as lts
-use Rattle.put.proofs.put_both.Reads as put-both-reads
-use Rattle.put.proofs.put_byte.Reads as put-byte-reads
-use Rattle.text.proofs.kinds.put_kind.Reads as put-kind-reads
-use Rattle.text.proofs.names.name_number.Reads as name-number-reads
-use Rattle.text.proofs.names.put_name.Reads as put-name-reads
-
--- src/lib.rt:34:38
-name-number-requires : tie.Need-name-number-requires
-name-number-requires c κs = search needs
-
--- src/lib.rt:34:9
-put-name-requires : tie.Need-put-name-requires
-put-name-requires c κs = ?
-
--- src/lib.rt:35:17
-cast-first : tie.Need-cast-first
-cast-first c = search needs
-
--- src/lib.rt:37:9
-same-length : tie.Need-same-length
-same-length c = search needs
-
--- src/lib.rt:37:9
-returns : tie.Need-returns
-returns c = ?
-
--- src/lib.rt:39:9
-put-byte-requires : tie.Need-put-byte-requires
-put-byte-requires c κs = ?
-
--- src/lib.rt:40:9
-put-kind-requires : tie.Need-put-kind-requires
-put-kind-requires c κs = ?
-
--- src/lib.rt:41:18
-cast-second : tie.Need-cast-second
-cast-second c = search needs
-
--- src/lib.rt:43:9
-same-length-2 : tie.Need-same-length-2
-same-length-2 c = search needs
-
--- src/lib.rt:43:9
-returns-2 : tie.Need-returns-2
-returns-2 c = ?
-
--- src/lib.rt:45:9
-put-both-requires : tie.Need-put-both-requires
-put-both-requires c κs = ?
-
--- src/lib.rt:46:5
-put-kind-requires-2 : tie.Need-put-kind-requires-2
-put-kind-requires-2 c κs = ?
-
--- src/lib.rt:21:1
-same-length-3 : tie.Need-same-length-3
-same-length-3 c = search needs
-
--- src/lib.rt:21:1
-returns-3 : tie.Need-returns-3
-returns-3 c = ?
 
 pub put-row-spec : {M : Type 1} → statement M
 put-row-spec =
     tie.close
     (tie.spec
-    name-number-requires
-    put-name-requires
-    cast-first
-    same-length
-    returns
-    put-byte-requires
-    put-kind-requires
-    cast-second
-    same-length-2
-    returns-2
-    put-both-requires
-    put-kind-requires-2
-    same-length-3
-    returns-3)
+    (λ c κs. search needs)
+    (λ c κs. (c .before .before .before .pre .0, c .before .before .before .pre .1, rw (c .before .name-number .ensures) (number-lt (c .before .before .before .args .i) (c .before .before .before .args .form) (c .before .before .before .args .w) (c .before .before .before .args .e) (c .before .before .before .pre .2) (c .before .before .before .pre .3) (search needs)), search needs))
+    (λ c. search needs)
+    (λ c. search needs)
+    (λ c. name-only (c .before .before .before .before .before .before .before .args .i) (c .before .before .before .before .before .before .before .args .form) (c .before .before .before .before .before .before .before .args .w) (c .before .before .before .before .before .before .before .args .e) (c .before .before .before .before .before .before .before .pre .2) (c .before .before .before .before .before .before .before .pre .3) (search needs) (rw (c .before .before .before .before .before .name-number .ensures) at (c .before .before .before .put-name .ensures)) (c .if1 .taken))
+    (λ c κs. let n = (rw (c .before .before .before .before .before .before .name-number .ensures) at (c .before .before .before .before .put-name .ensures)) in omega (arith, n .next, behind-first (c .before .before .before .before .before .before .before .before .args .i) (c .before .before .before .before .before .before .before .before .args .form) (c .before .before .before .before .before .before .before .before .args .w) (c .before .before .before .before .before .before .before .before .args .e) (c .before .before .before .before .before .before .before .before .pre .2) (c .before .before .before .before .before .before .before .before .pre .3) (search needs)))
+    (λ c κs. let n = (rw (c .before .before .before .before .before .before .before .before .before .before .name-number .ensures) at (c .before .before .before .before .before .before .before .before .put-name .ensures)) in omega (arith, n .next, c .before .before .before .put-byte .ensures .next, behind-first (c .before .before .before .before .before .before .before .before .before .before .before .before .args .i) (c .before .before .before .before .before .before .before .before .before .before .before .before .args .form) (c .before .before .before .before .before .before .before .before .before .before .before .before .args .w) (c .before .before .before .before .before .before .before .before .before .before .before .before .args .e) (c .before .before .before .before .before .before .before .before .before .before .before .before .pre .2) (c .before .before .before .before .before .before .before .before .before .before .before .before .pre .3) (search needs)))
+    (λ c. search needs)
+    (λ c. search needs)
+    (λ c. with-first (c .before .before .before .before .before .before .before .before .before .before .before .before .before .before .before .before .args .i) (c .before .before .before .before .before .before .before .before .before .before .before .before .before .before .before .before .args .form) (c .before .before .before .before .before .before .before .before .before .before .before .before .before .before .before .before .args .w) (c .before .before .before .before .before .before .before .before .before .before .before .before .before .before .before .before .args .e) (c .before .before .before .before .before .before .before .before .before .before .before .before .before .before .before .before .pre .2) (c .before .before .before .before .before .before .before .before .before .before .before .before .before .before .before .before .pre .3) (search needs) (rw (c .before .before .before .before .before .before .before .before .before .before .before .before .before .before .name-number .ensures) at (c .before .before .before .before .before .before .before .before .before .before .before .before .put-name .ensures)) (c .before .before .before .before .before .before .before .before .before .if1 .left) (c .before .before .before .before .before .before .before .put-byte .ensures) (c .before .before .before .put-kind .ensures) (c .if2 .taken))
+    (λ c κs. let n = (rw (c .before .before .before .before .before .before .before .before .before .before .before .before .before .before .before .name-number .ensures) at (c .before .before .before .before .before .before .before .before .before .before .before .before .before .put-name .ensures)) in omega (arith, n .next, c .before .before .before .before .before .before .before .before .put-byte .ensures .next, c .before .before .before .before .put-kind .ensures .next, behind-first (c .before .before .before .before .before .before .before .before .before .before .before .before .before .before .before .before .before .args .i) (c .before .before .before .before .before .before .before .before .before .before .before .before .before .before .before .before .before .args .form) (c .before .before .before .before .before .before .before .before .before .before .before .before .before .before .before .before .before .args .w) (c .before .before .before .before .before .before .before .before .before .before .before .before .before .before .before .before .before .args .e) (c .before .before .before .before .before .before .before .before .before .before .before .before .before .before .before .before .before .pre .2) (c .before .before .before .before .before .before .before .before .before .before .before .before .before .before .before .before .before .pre .3) (search needs)))
+    (λ c κs. let n = (rw (c .before .before .before .before .before .before .before .before .before .before .before .before .before .before .before .before .before .before .before .name-number .ensures) at (c .before .before .before .before .before .before .before .before .before .before .before .before .before .before .before .before .before .put-name .ensures)) in omega (arith, n .next, c .before .before .before .before .before .before .before .before .before .before .before .before .put-byte .ensures .next, c .before .before .before .before .before .before .before .before .put-kind .ensures .next, c .before .before .before .put-both .ensures .next, before-second (c .before .before .before .before .before .before .before .before .before .before .before .before .before .before .before .before .before .before .before .before .before .args .i) (c .before .before .before .before .before .before .before .before .before .before .before .before .before .before .before .before .before .before .before .before .before .args .form) (c .before .before .before .before .before .before .before .before .before .before .before .before .before .before .before .before .before .before .before .before .before .args .w) (c .before .before .before .before .before .before .before .before .before .before .before .before .before .before .before .before .before .before .before .before .before .args .e) (c .before .before .before .before .before .before .before .before .before .before .before .before .before .before .before .before .before .before .before .before .before .pre .2) (c .before .before .before .before .before .before .before .before .before .before .before .before .before .before .before .before .before .before .before .before .before .pre .3) (search needs) (c .before .before .before .before .before .if2 .left)))
+    (λ c. search needs)
+    (λ c. with-both (c .before .before .before .before .before .before .before .before .before .before .before .before .before .before .before .before .before .before .before .before .before .before .before .before .args .i) (c .before .before .before .before .before .before .before .before .before .before .before .before .before .before .before .before .before .before .before .before .before .before .before .before .args .form) (c .before .before .before .before .before .before .before .before .before .before .before .before .before .before .before .before .before .before .before .before .before .before .before .before .args .w) (c .before .before .before .before .before .before .before .before .before .before .before .before .before .before .before .before .before .before .before .before .before .before .before .before .args .e) (c .before .before .before .before .before .before .before .before .before .before .before .before .before .before .before .before .before .before .before .before .before .before .before .before .pre .2) (c .before .before .before .before .before .before .before .before .before .before .before .before .before .before .before .before .before .before .before .before .before .before .before .before .pre .3) (search needs) (rw (c .before .before .before .before .before .before .before .before .before .before .before .before .before .before .before .before .before .before .before .before .before .before .name-number .ensures) at (c .before .before .before .before .before .before .before .before .before .before .before .before .before .before .before .before .before .before .before .before .put-name .ensures)) (c .before .before .before .before .before .before .before .before .before .before .before .before .before .before .before .before .before .if1 .left) (c .before .before .before .before .before .before .before .before .before .before .before .before .before .before .before .put-byte .ensures) (c .before .before .before .before .before .before .before .before .before .before .before .put-kind .ensures) (c .before .before .before .before .before .before .before .before .if2 .left) (c .before .before .before .before .before .before .put-both .ensures) (c .before .before .put-kind2 .ensures)))
