@@ -1,17 +1,16 @@
 // Listing lines written straight into a lent buffer that has room for the longest: for this project's own crates.
 ghost use mathlib.Core.Path.{_≡_};
-ghost use mathlib.Core.List.{[], _∷_, _++_};
+ghost use mathlib.Core.List.{_++_};
 ghost use Prim.Native.Nat.{_+_, _-_, _*_, _<_, _≤_};
 ghost use lib.ListN.{length, drop};
 ghost use Rattle.avr.specs.declared.Line.the-variants as line;
 ghost use Rattle.manual.specs.Text.{chars, padded};
-ghost use Rattle.manual.specs.Lines.{limit, lineOf, lengthOf, tailAfter, lineAt};
-ghost use Rattle.manual.specs.Listing.{lineText, listingLine, listing};
+ghost use Rattle.manual.specs.Lines.{limit, lineOf, lineAt};
+ghost use Rattle.manual.specs.Listing.{listing};
 ghost use Rattle.decode.specs.Found.{Tables, ofFound, Known};
 ghost use Rattle.text.specs.Names.{nameBytes, nameLengths};
 ghost use Rattle.put.specs.Put.{Put};
-ghost use Rattle.listing.specs.Lent.{Lent, Written, tailText};
-use crate::stub::put_row;
+ghost use Rattle.listing.specs.Lent.{Lent, Written, Listed, tailText};
 use decode::helper::Found;
 use decode::helper::find;
 use decode::helper::form_bytes;
@@ -27,6 +26,7 @@ use rows::tables::TARGETS;
 use rows::tables::VALUES;
 use text::names::LENGTHS;
 use text::names::NAMES;
+use text::put_row;
 
 // A line that was written: how many bytes of the image it takes, whether the tail has begun behind it, and where the next text goes.
 pub struct Walked {
@@ -58,7 +58,7 @@ fn put_word(out: &mut [u8], o: usize, w: u16) -> Walked
 }
 
 fn put_one(out: &mut [u8], o: usize, b: u8) -> Walked
-    requires { ⌜ o + 21 ≤ length (now out) ⌝ }
+    requires { ⌜ o + 9 ≤ length (now out) ⌝ }
     ensures { λ r. ⌜ Written (line.Byte b) (now (out .entry)) o (now (out .exit)) r ⌝ }
 {
     let p = put_bytes(&mut *out, o, b".byte $");
@@ -118,8 +118,7 @@ pub fn put_line(
 ) -> Walked
     requires { ⌜ Lent (now masks) (now values) (now targets) (now forms) (now names) (now lengths) ⌝ }
     requires { ⌜ (at < length (now image)) × (length (now image) ≤ limit) × (o + 29 ≤ length (now out)) ⌝ }
-    ensures { λ r. ⌜ Put (now (out .entry)) o (listingLine at (lineAt flag (now (image .entry)) at tail)) (now (out .exit)) (r .next) ⌝ }
-    ensures { λ r. ⌜ (r .length ≡ lengthOf (lineAt flag (now (image .entry)) at tail)) × (r .tail ≡ tailAfter (lineAt flag (now (image .entry)) at tail) tail) × (r .next ≤ o + 29) ⌝ }
+    ensures { λ r. ⌜ Listed at (lineAt flag (now (image .entry)) at tail) tail (now (out .entry)) o (now (out .exit)) r ⌝ }
 {
     let p = put_head(&mut *out, o, at);
     let b = image[at];
@@ -164,9 +163,8 @@ fn put_lines(
     ensures { λ r. ⌜ Put (now (out .entry)) o (listing flag (now (image .entry))) (now (out .exit)) r ⌝ }
 {
     let mut at: usize = 0;
-    let mut tail = false;
     let mut next = o;
-    while !tail && at + 1 < image.len() {
+    while at + 1 < image.len() {
         let w = put_line(
             masks,
             values,
@@ -183,7 +181,9 @@ fn put_lines(
         );
         next = put_byte(&mut *out, w.next, 10);
         at = at + w.length;
-        tail = w.tail;
+        if w.tail {
+            return put_tail(image, at, &mut *out, next);
+        }
     }
     put_tail(image, at, &mut *out, next)
 }

@@ -1,3 +1,2 @@
 // The listing of an image into a lent buffer.
 pub mod helper;
-mod stub;

@@ -1,84 +1,61 @@
+-- The text of each case.
+use Prim.Native.Nat.{_+_, _*_}
+use mathlib.Core.Path.{_≡_, refl, sym, ap, _∙_}
+use native.Mathlib.Omega.{arith}
 use borrow.Author.Needs.{needs}
+use Rattle.manual.specs.Decode.{rowInstruction}
+use Rattle.manual.specs.Listing.{lineText}
+use Rattle.decode.specs.Forms.{bytesFrom}
+use Rattle.decode.proofs.Shapes.{bytes-are}
+use Rattle.listing.proofs.Rooms.{row-share, row-known}
 use Rattle.listing.proofs.helper.put_found.Statement.{statement}
 use Rattle.listing.proofs.helper.put_found.Tie as tie
-use Rattle.listing.proofs.helper.put_found.Reads as reads
-use Rattle.listing.proofs.helper.put_found.Lts as lts
-use Rattle.decode.proofs.helper.form_bytes.Reads as form-bytes-reads
-use Rattle.listing.proofs.helper.put_one.Reads as put-one-reads
-use Rattle.listing.proofs.helper.put_word.Reads as put-word-reads
-use Rattle.listing.proofs.stub.put_row.Reads as put-row-reads
 
--- src/helper.rt:87:13
-enum-known-found : tie.Need-enum-known-found
-enum-known-found c = search needs
-
--- src/helper.rt:92:17
 put-row-requires : tie.Need-put-row-requires
-put-row-requires c κs = ?
+put-row-requires c κs =
+    let p = c .before .before .before .before .before .pre in
+    let k = row-known (c .before .before .found .given .1) (p .2) in
+    (p .0, p .1, k .0, k .1, p .3)
 
--- src/helper.rt:94:25
-form-bytes-requires : tie.Need-form-bytes-requires
-form-bytes-requires c κs = search needs
-
--- src/helper.rt:94:25
-cast-t17 : tie.Need-cast-t17
-cast-t17 c = search needs
-
--- src/helper.rt:99:30
-enum-known-found-2 : tie.Need-enum-known-found-2
-enum-known-found-2 c = search needs
-
--- src/helper.rt:99:36
-put-word-requires : tie.Need-put-word-requires
-put-word-requires c κs = search needs
-
--- src/helper.rt:100:36
-enum-told : tie.Need-enum-told
-enum-told c = search needs
-
--- src/helper.rt:100:28
-put-one-requires : tie.Need-put-one-requires
-put-one-requires c κs = search needs
-
--- src/helper.rt:74:1
-same-length : tie.Need-same-length
-same-length c = search needs
-
--- src/helper.rt:74:1
 returns : tie.Need-returns
-returns c = ?
+unfolding lineText rowInstruction
+returns c =
+    let r = c .before .before .before in
+    let f = r .before .before .before in
+    let p = f .before .before .before .pre in
+    let k = row-known (f .found .given .1) (p .2) in
+    let e = r .put-row .ensures in
+    let l = c .form-bytes .ensures ∙ ap bytesFrom (k .1) ∙ bytes-are _ (k .0) in
+    rw (f .found .given .1)
+    (record {
+      text = e .0;
+      most = e .1;
+      share = row-share _ _ _ (k .0) (e .1);
+      takes = l;
+      tail = refl;
+    })
 
--- src/helper.rt:74:1
-same-length-2 : tie.Need-same-length-2
-same-length-2 c = search needs
-
--- src/helper.rt:74:1
 returns-2 : tie.Need-returns-2
-returns-2 c = ?
+returns-2 c = rw (c .before .before .before .before .before .found2 .given .1) (c .before .before .put-word .ensures)
 
--- src/helper.rt:74:1
-same-length-3 : tie.Need-same-length-3
-same-length-3 c = search needs
-
--- src/helper.rt:74:1
 returns-3 : tie.Need-returns-3
-returns-3 c = ?
+returns-3 c = rw (c .before .before .before .before .enum-told .given .1) (c .before .before .put-one .ensures)
 
 pub put-found-spec : {M : Type 1} → statement M
 put-found-spec =
     tie.close
     (tie.spec
-    enum-known-found
+    (λ c. search needs)
     put-row-requires
-    form-bytes-requires
-    cast-t17
-    enum-known-found-2
-    put-word-requires
-    enum-told
-    put-one-requires
-    same-length
+    (λ c κs. search needs)
+    (λ c. search needs)
+    (λ c. search needs)
+    (λ c κs. search needs)
+    (λ c. search needs)
+    (λ c κs. search needs)
+    (λ c. search needs)
     returns
-    same-length-2
+    (λ c. search needs)
     returns-2
-    same-length-3
+    (λ c. search needs)
     returns-3)

@@ -1,31 +1,25 @@
+-- Six digits, then two bytes.
+use Prim.Native.Nat.{_+_}
+use native.Mathlib.Omega.{arith}
 use borrow.Author.Needs.{needs}
+use Rattle.put.proofs.Puts.{then}
+use Rattle.listing.proofs.Steps.{padded-length}
 use Rattle.listing.proofs.helper.put_head.Statement.{statement}
 use Rattle.listing.proofs.helper.put_head.Tie as tie
-use Rattle.listing.proofs.helper.put_head.Reads as reads
-use Rattle.listing.proofs.helper.put_head.Lts as lts
-use Rattle.put.proofs.put_both.Reads as put-both-reads
-use Rattle.put.proofs.put_hex6.Reads as put-hex6-reads
 
--- src/helper.rt:43:36
-cast-put-hex6 : tie.Need-cast-put-hex6
-cast-put-hex6 c = search needs
-
--- src/helper.rt:43:9
-put-hex6-requires : tie.Need-put-hex6-requires
-put-hex6-requires c κs = search needs
-
--- src/helper.rt:44:5
 put-both-requires : tie.Need-put-both-requires
-put-both-requires c κs = ?
+put-both-requires c κs =
+    let h = c .before .before .before in
+    omega (arith, h .put-hex6 .ensures .next, padded-length 16 6 (h .before .before .before .args .at))
 
--- src/helper.rt:39:1
-same-length : tie.Need-same-length
-same-length c = search needs
-
--- src/helper.rt:39:1
 returns : tie.Need-returns
-returns c = ?
+returns c =
+    let b = c .before .before in
+    let h = b .before .before .before .before in (
+      then (h .put-hex6 .ensures) (b .put-both .ensures),
+      omega (arith, b .put-both .ensures .next, h .put-hex6 .ensures .next, padded-length 16 6 (h .before .before .before .args .at)),
+    )
 
 pub put-head-spec : {M : Type 1} → statement M
 put-head-spec =
-    tie.close (tie.spec cast-put-hex6 put-hex6-requires put-both-requires same-length returns)
+    tie.close (tie.spec (λ c. search needs) (λ c κs. search needs) put-both-requires (λ c. search needs) returns)

@@ -1,74 +1,63 @@
+-- The head and the text, of a byte in the tail and of what was found elsewhere.
+use Prim.Native.Nat.{_+_, _-_}
+use mathlib.Core.Path.{_≡_, refl}
+use denote.Ref.{now}
+use native.Mathlib.Omega.{arith}
 use borrow.Author.Needs.{needs}
+use lib.ListN.{getD}
+use Rattle.avr.specs.declared.Line.the-variants as line
+use Rattle.manual.specs.Lines.{lineOf, lineAt}
+use Rattle.decode.specs.Found.{ofFound}
+use Rattle.walk.proofs.At.{is-byte, is-line}
+use Rattle.listing.proofs.Steps.{begins-tail, line-of}
 use Rattle.listing.proofs.helper.put_line.Statement.{statement}
 use Rattle.listing.proofs.helper.put_line.Tie as tie
-use Rattle.listing.proofs.helper.put_line.Reads as reads
-use Rattle.listing.proofs.helper.put_line.Lts as lts
-use Rattle.decode.proofs.helper.find.Reads as find-reads
-use Rattle.listing.proofs.helper.put_found.Reads as put-found-reads
-use Rattle.listing.proofs.helper.put_head.Reads as put-head-reads
-use Rattle.listing.proofs.helper.put_one.Reads as put-one-reads
 
--- src/helper.rt:124:9
-put-head-requires : tie.Need-put-head-requires
-put-head-requires c κs = search needs
-
--- src/helper.rt:125:13
-shared-slice-read-b : tie.Need-shared-slice-read-b
-shared-slice-read-b c = search needs
-
--- src/helper.rt:127:9
 put-one-requires : tie.Need-put-one-requires
-put-one-requires c κs = search needs
+put-one-requires c κs = omega (arith, c .before .before .before .before .before .put-head .ensures .1)
 
--- src/helper.rt:127:9
-same-length : tie.Need-same-length
-same-length c = search needs
-
--- src/helper.rt:127:9
 returns : tie.Need-returns
-returns c = ?
+returns c =
+    let t = c .before .before .before .before in
+    let h = t .before .before .before .before in
+    let s = h .before .before .before .before in
+    let b = is-byte (s .args .flag) (now (s .args .image)) (s .args .at) (s .args .tail) (s .pre .1 .1) (s .pre .1 .0) (t .if1 .taken) in
+    line-of (s .args .at) (line.Byte (getD (now (s .args .image)) (s .args .at) 0)) (lineAt (s .args .flag) (now (s .args .image)) (s .args .at) (s .args .tail))
+    (s .args .tail) b refl (h .put-head .ensures) (c .before .before .put-one .ensures)
 
--- src/helper.rt:129:53
-sub-find : tie.Need-sub-find
-sub-find c = search needs
-
--- src/helper.rt:129:53
-part-find-start : tie.Need-part-find-start
-part-find-start c = search needs
-
--- src/helper.rt:129:53
-part-find-end : tie.Need-part-find-end
-part-find-end c = search needs
-
--- src/helper.rt:129:9
 find-requires : tie.Need-find-requires
-find-requires c κs = search needs
+find-requires c κs = c .before .before .before .before .before .before .before .before .before .pre .0 .tables
 
--- src/helper.rt:130:5
 put-found-requires : tie.Need-put-found-requires
-put-found-requires c κs = search needs
+put-found-requires c κs =
+    let h = c .before .before .before .before .before .before .before in
+    let l = h .before .before .before .before .pre .0 in
+    (l .name, l .size, c .before .find .ensures .1, omega (arith, h .put-head .ensures .1))
 
--- src/helper.rt:105:1
-same-length-2 : tie.Need-same-length-2
-same-length-2 c = search needs
-
--- src/helper.rt:105:1
 returns-2 : tie.Need-returns-2
-returns-2 c = ?
+returns-2 c =
+    let f = c .before .before .before .before in
+    let t = f .before .before in
+    let h = t .before .before .before .before in
+    let s = h .before .before .before .before in
+    let a = ofFound (f .find .result) in
+    let e = is-line (s .args .flag) (now (s .args .image)) (s .args .at) (s .args .tail) (s .pre .1 .1) (s .pre .1 .0) (t .if1 .left) a (f .find .ensures .0) in
+    line-of (s .args .at) (lineOf a (getD (now (s .args .image)) (s .args .at) 0)) (lineAt (s .args .flag) (now (s .args .image)) (s .args .at) (s .args .tail))
+    (s .args .tail) e (begins-tail (lineOf a (getD (now (s .args .image)) (s .args .at) 0)) (s .args .tail) (t .if1 .left)) (h .put-head .ensures) (c .before .before .put-found .ensures)
 
 pub put-line-spec : {M : Type 1} → statement M
 put-line-spec =
     tie.close
     (tie.spec
-    put-head-requires
-    shared-slice-read-b
+    (λ c κs. search needs)
+    (λ c. search needs)
     put-one-requires
-    same-length
+    (λ c. search needs)
     returns
-    sub-find
-    part-find-start
-    part-find-end
+    (λ c. search needs)
+    (λ c. search needs)
+    (λ c. search needs)
     find-requires
     put-found-requires
-    same-length-2
+    (λ c. search needs)
     returns-2)

@@ -1,32 +1,31 @@
+-- The literal text, then the digits.
+use Prim.Native.Nat.{_+_}
+use mathlib.Core.Path.{refl}
+use native.Mathlib.Omega.{arith}
 use borrow.Author.Needs.{needs}
+use Rattle.manual.specs.Listing.{lineText}
+use Rattle.put.proofs.Puts.{then}
+use Rattle.listing.proofs.Steps.{padded-length}
 use Rattle.listing.proofs.helper.put_one.Statement.{statement}
 use Rattle.listing.proofs.helper.put_one.Tie as tie
-use Rattle.listing.proofs.helper.put_one.Reads as reads
-use Rattle.listing.proofs.helper.put_one.Lts as lts
-use Rattle.put.proofs.put_bytes.Reads as put-bytes-reads
-use Rattle.put.proofs.put_hex2.Reads as put-hex2-reads
 
--- src/helper.rt:64:37
-slice-aggregate-put-bytes : tie.Need-slice-aggregate-put-bytes
-slice-aggregate-put-bytes c = search needs
-
--- src/helper.rt:64:9
-put-bytes-requires : tie.Need-put-bytes-requires
-put-bytes-requires c κs = search needs
-
--- src/helper.rt:65:9
-put-hex2-requires : tie.Need-put-hex2-requires
-put-hex2-requires c κs = search needs
-
--- src/helper.rt:60:1
-same-length : tie.Need-same-length
-same-length c = search needs
-
--- src/helper.rt:60:1
 returns : tie.Need-returns
-returns c = ?
+unfolding lineText
+returns c =
+    let b = c .before .before in
+    let h = b .before .before .before .before in
+    let n = b .put-hex2 .ensures .next in
+    let m = h .put-bytes .ensures .next in
+    let k = padded-length 16 2 (h .before .before .before .before .args .b) in
+    record {
+      text = then (h .put-bytes .ensures) (b .put-hex2 .ensures);
+      most = omega arith;
+      share = omega arith;
+      takes = refl;
+      tail = refl;
+    }
 
 pub put-one-spec : {M : Type 1} → statement M
 put-one-spec =
     tie.close
-    (tie.spec slice-aggregate-put-bytes put-bytes-requires put-hex2-requires same-length returns)
+    (tie.spec (λ c. search needs) (λ c κs. search needs) (λ c κs. search needs) (λ c. search needs) returns)
