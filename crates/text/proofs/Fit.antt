@@ -17,6 +17,12 @@ pub at-start : {d xs d′ : List ℕ} {r : ℕ} → Put d 0 xs d′ r → take r
 at-start {d} {xs} p =
     rw (p .holds, put-first d xs) (take-at xs (drop (length xs) d) _ (sym (p .next ∙ zero-add (length xs))))
 
+pub start-length : {d xs d′ : List ℕ} {r : ℕ} → Put d 0 xs d′ r → r ≡ length (take r d′)
+start-length {d} {xs} p = p .next ∙ zero-add (length xs) ∙ sym (ap length (at-start p))
+
+pub start-fits : {d xs d′ : List ℕ} {r : ℕ} → Put d 0 xs d′ r → {n : ℕ} → r ≤ n → length (take r d′) ≤ n
+start-fits p h = omega (arith, start-length p)
+
 module _ {d xs d′ : List ℕ} {r : ℕ} (p : Put d 0 xs d′ r) (buffer : List ℕ) where
   pub no-room : length buffer < r → (noRoom r ≡ written xs buffer) × (buffer ≡ filled xs buffer)
   unfolding written filled

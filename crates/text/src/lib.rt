@@ -9,17 +9,16 @@ ghost use Rattle.manual.specs.Text.{textOf};
 ghost use Rattle.rows.specs.Columns.{rowAt, formAt};
 ghost use Rattle.put.specs.Put.{Put};
 ghost use Rattle.text.specs.Names.{nameBytes, nameLengths};
-
 use avr::Written;
 
 pub mod kinds;
 pub mod names;
 
 use kinds::put_kind;
-use names::name_number;
-use names::put_name;
 use names::LENGTHS;
 use names::NAMES;
+use names::name_number;
+use names::put_name;
 use put::put_both;
 use put::put_byte;
 
