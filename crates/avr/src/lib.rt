@@ -172,6 +172,13 @@ pub enum Encoded {
     NoSuchRecord,
 }
 
+// What writing the text of a record answers: how many bytes it wrote, that no bytes decode to the record, or how many bytes it needs.
+pub enum Written {
+    Done(usize),
+    NoSuchRecord,
+    NoRoom(usize),
+}
+
 // A string of two bytes or of four.
 pub enum Str {
     Short(u8, u8),

@@ -11,6 +11,8 @@ use Rattle.avr.specs.declared.Str.{Str}
 use Rattle.avr.specs.declared.Str.the-variants as str
 use Rattle.avr.specs.declared.Strings.{Strings}
 use Rattle.avr.specs.declared.Strings.the-variants as strings
+use Rattle.avr.specs.declared.Written.{Written}
+use Rattle.avr.specs.declared.Written.the-variants as written
 use Rattle.avr.specs.declared.Encoded.{Encoded}
 use Rattle.avr.specs.declared.Encoded.the-variants as encoded
 
@@ -25,6 +27,10 @@ noSuchWord w = refuses 1 (w ∷ [])
 -- 2 short, with the bytes needed
 abbrev pub short : {A : Type 0} → ℕ → Answer A
 short n = refuses 2 (n ∷ [])
+
+-- 3 no room, with the bytes needed
+abbrev pub noRoom : {A : Type 0} → ℕ → Answer A
+noRoom n = refuses 3 (n ∷ [])
 
 -- 4 no such record
 abbrev pub noSuchRecord : {A : Type 0} → Answer A
@@ -43,6 +49,12 @@ abbrev pub ofEncoded : Encoded → Answer (List ℕ)
 ofEncoded (encoded.Two a b) = gives (a ∷ b ∷ [])
 ofEncoded (encoded.Four a b c d) = gives (a ∷ b ∷ c ∷ d ∷ [])
 ofEncoded encoded.NoSuchRecord = noSuchRecord
+
+-- how many bytes of text were written
+abbrev pub ofWritten : Written → Answer ℕ
+ofWritten (written.Done n) = gives n
+ofWritten written.NoSuchRecord = noSuchRecord
+ofWritten (written.NoRoom n) = noRoom n
 
 -- a walk that may begin gives nothing but that
 abbrev pub ofBegun : Begun → Answer (Unit {0})
