@@ -192,6 +192,20 @@ pub enum Strings {
     Two(Str, Str),
 }
 
+// What writing a listing line answers: how many bytes were written, how many are needed, or that there is no line.
+pub enum LineWritten {
+    Done(usize),
+    NoRoom(usize),
+    End,
+}
+
+// What listing an image answers: how many bytes were written, how many are needed, or that the image is too long.
+pub enum Listed {
+    Done(usize),
+    NoRoom(usize),
+    TooLong,
+}
+
 // An opcode in numbers: its code, and the number of the SREG bit that four of the opcodes hold, 0 for the others.
 pub struct OpcodeNumber {
     pub code: u8,

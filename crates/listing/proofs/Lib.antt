@@ -1,2 +1,5 @@
 pub mod Rooms
 pub mod Steps
+pub mod Buffers
+pub mod LentTables
+pub mod Unique

@@ -19,7 +19,7 @@ use Rattle.put.specs.Put.{Put}
 use Rattle.put.proofs.Puts.{then}
 use Rattle.decode.proofs.Steps.{short-2}
 use Rattle.walk.proofs.Along.{none-left}
-use Rattle.walk.proofs.At.{unroll-at, lines-within}
+use Rattle.walk.proofs.At.{unroll-at, lines-within, left-none}
 use Rattle.listing.specs.declared.helper.Walked.{Walked}
 use Rattle.listing.specs.Lent.{Written, Listed, tailText}
 
@@ -109,14 +109,25 @@ unfolding listing
 from-start flag image h = ap (λ (ls : List Line). printed (placed 0 ls)) (sym (lines-within flag image h))
 
 -- a turn of the listing: what has been written, the line at the state, and its LF leave the listing from the state behind it
-pub turn : (flag : Bool) (image : List ℕ) (at : ℕ) → length image ≤ limit → at < length image
-    → {d d₁ d₂ d₃ W : List ℕ} {o p q : ℕ} {w : Walked} → Put d o W d₁ p → W ++ left flag image at false ≡ listing flag image
-    → Listed at (lineAt flag image at false) false d₁ p d₂ w → Put d₂ (w .next) (10 ∷ []) d₃ q → (tail : Bool) → w .tail ≡ tail
-    → (X : List ℕ) × (Put d o X d₃ q × (X ++ left flag image (at + w .length) tail ≡ listing flag image))
-turn flag image at short inside {d} {d₁} {d₂} {d₃} {W} {o} {p} {q} {w} so e l b tail f = (
-  W ++ (listingLine at (lineAt flag image at false) ++ (10 ∷ [])),
-  (then so (then (l .text) b), rw (l .takes, sym f ∙ l .begun) (simp append-assoc (rw (sym (left-step flag image at false short inside)) e))),
+pub turn : (flag : Bool) (image : List ℕ) (at : ℕ) (tail : Bool) → length image ≤ limit → at < length image
+    → {d d₁ d₂ d₃ W : List ℕ} {o p q r : ℕ} → Put d o W d₁ p → W ++ left flag image at tail ≡ listing flag image
+    → Put d₁ p (listingLine at (lineAt flag image at tail)) d₂ q → Put d₂ q (10 ∷ []) d₃ r
+    → (n : ℕ) → n ≡ lengthOf (lineAt flag image at tail) → (t : Bool) → t ≡ tailAfter (lineAt flag image at tail) tail
+    → (X : List ℕ) × (Put d o X d₃ r × (X ++ left flag image (at + n) t ≡ listing flag image))
+turn flag image at tail short inside {d} {d₁} {d₂} {d₃} {W} so e l b n k t f = (
+  W ++ (listingLine at (lineAt flag image at tail) ++ (10 ∷ [])),
+  (then so (then l b), rw (k, f) (simp append-assoc (rw (sym (left-step flag image at tail short inside)) e))),
 )
+
+-- the same in lengths: the line and its LF are part of what is left
+pub left-length : (flag : Bool) (image : List ℕ) (at : ℕ) (tail : Bool) → length image ≤ limit → at < length image
+    → (n : ℕ) → n ≡ lengthOf (lineAt flag image at tail) → (t : Bool) → t ≡ tailAfter (lineAt flag image at tail) tail
+    → length (left flag image at tail) ≡ length (listingLine at (lineAt flag image at tail)) + (1 + length (left flag image (at + n) t))
+left-length flag image at tail short inside n k t f =
+    ap length (left-step flag image at tail short inside) ∙ rw (length-append, k, f) (omega arith)
+
+pub left-end : (flag : Bool) (image : List ℕ) (at : ℕ) (tail : Bool) → length image ≤ at → left flag image at tail ≡ []
+left-end flag image at tail h = ap (λ (ls : List Line). printed (placed at ls)) (left-none flag tail image at h)
 
 pub same-text : {d X Y d₁ : List ℕ} {o r : ℕ} → X ≡ Y → Put d o X d₁ r → Put d o Y d₁ r
 same-text {d} {X} {Y} {d₁} {o} {r} e p = subst (λ (Z : List ℕ). Put d o Z d₁ r) e p

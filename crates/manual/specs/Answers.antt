@@ -7,6 +7,10 @@ use Rattle.avr.specs.declared.Decoded.{Decoded}
 use Rattle.avr.specs.declared.Decoded.the-variants as decoded
 use Rattle.avr.specs.declared.Begun.{Begun}
 use Rattle.avr.specs.declared.Begun.the-variants as begun
+use Rattle.avr.specs.declared.LineWritten.{LineWritten}
+use Rattle.avr.specs.declared.LineWritten.the-variants as lineWritten
+use Rattle.avr.specs.declared.Listed.{Listed}
+use Rattle.avr.specs.declared.Listed.the-variants as listed
 use Rattle.avr.specs.declared.Str.{Str}
 use Rattle.avr.specs.declared.Str.the-variants as str
 use Rattle.avr.specs.declared.Strings.{Strings}
@@ -60,6 +64,17 @@ ofWritten (written.NoRoom n) = noRoom n
 abbrev pub ofBegun : Begun → Answer (Unit {0})
 ofBegun begun.Ready = gives tt
 ofBegun begun.TooLong = tooLong
+
+-- the number of bytes of the line that was written, and none at the end
+abbrev pub ofLineWritten : LineWritten → Answer (List ℕ)
+ofLineWritten (lineWritten.Done n) = gives (n ∷ [])
+ofLineWritten (lineWritten.NoRoom n) = noRoom n
+ofLineWritten lineWritten.End = gives []
+
+abbrev pub ofListed : Listed → Answer ℕ
+ofListed (listed.Done n) = gives n
+ofListed (listed.NoRoom n) = noRoom n
+ofListed listed.TooLong = tooLong
 
 -- the reverse reading refuses nothing: it gives a list of strings
 abbrev pub bytesOf : Str → List ℕ

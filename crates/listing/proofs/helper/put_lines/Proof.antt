@@ -62,7 +62,8 @@ returns c =
     let l = b .before .before .before .before in
     let k = l .before .before .before in
     let s = k .before .before .before in
-    let t = turn (s .args .flag) (now (s .args .image)) (k .loop .at) (s .pre .1 .0) (omega arith) (k .loop .inv .3 .1 .0) (k .loop .inv .3 .1 .1) (l .put-line .ensures) (b .put-byte .ensures) true (i .if1 .taken) in
+    let t = turn (s .args .flag) (now (s .args .image)) (k .loop .at) false (s .pre .1 .0) (omega arith) (k .loop .inv .3 .1 .0) (k .loop .inv .3 .1 .1) (l .put-line .ensures .text)
+    (b .put-byte .ensures) _ (l .put-line .ensures .takes) true (sym (i .if1 .taken) ∙ l .put-line .ensures .begun) in
     same-text (ap (λ (x : List ℕ). t .0 ++ x) (sym (left-in-tail (s .args .flag) (now (s .args .image)) (k .loop .at + l .put-line .result .length))) ∙ t .1 .1)
     (then (t .1 .0) (c .before .before .put-tail .ensures))
 
@@ -84,7 +85,8 @@ loop-again c =
     let e = l .put-line .ensures .takes in
     let f = l .put-line .ensures .share in
     let g = b .put-byte .ensures .next in
-    let t = turn (s .args .flag) (now (s .args .image)) (k .loop .at) (s .pre .1 .0) (omega arith) (k .loop .inv .3 .1 .0) (k .loop .inv .3 .1 .1) (l .put-line .ensures) (b .put-byte .ensures) false (c .if1 .left) in
+    let t = turn (s .args .flag) (now (s .args .image)) (k .loop .at) false (s .pre .1 .0) (omega arith) (k .loop .inv .3 .1 .0) (k .loop .inv .3 .1 .1) (l .put-line .ensures .text)
+    (b .put-byte .ensures) _ (l .put-line .ensures .takes) false (sym (c .if1 .left) ∙ l .put-line .ensures .begun) in
     (omega arith, omega arith, omega arith, (t .0, (t .1 .0, t .1 .1)))
 
 returns-2 : tie.Need-returns-2 Inv-loop μ-loop

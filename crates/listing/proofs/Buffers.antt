@@ -1,0 +1,70 @@
+-- What is answered for a listing line and for a listing, and what they leave in the buffer, case by case.
+use mathlib.Core.Path.{_≡_, refl, sym, ap, _∙_}
+use mathlib.Core.Bool.{Bool, true, false}
+use mathlib.Core.List.{List, [], _++_}
+use Prim.Native.Nat.{ℕ, _+_, _≤_, _<_}
+use native.Mathlib.Omega.{arith}
+use native.Mathlib.Nat.{zero-add}
+use lib.Dec.{leb}
+use lib.ListN.{length}
+use borrow.Author.Tests.{lt-ltb, le-ltb, le-leb, lt-leb}
+use Rattle.manual.specs.Choice.{both}
+use Rattle.manual.specs.Answers.{Answer, gives, noRoom, tooLong}
+use Rattle.manual.specs.Room.{written, filled}
+use Rattle.manual.specs.Lines.{limit, lineAt}
+use Rattle.manual.specs.Listing.{listingLine, listing}
+use Rattle.manual.specs.Lists.{inside, one, writesLine, lineLeft, lists, listLeft}
+use Rattle.put.specs.Put.{Put}
+use Rattle.put.proofs.Puts.{put-first}
+
+-- ---- a line
+
+none-inside : (b : Bool) → both b false ≡ false
+none-inside true = refl
+none-inside false = refl
+
+module _ (flag : Bool) (image : List ℕ) (at : ℕ) (tail : Bool) (buffer : List ℕ) where
+  no-line : inside image at ≡ false → (gives [] ≡ writesLine flag image at tail buffer) × (buffer ≡ lineLeft flag image at tail buffer)
+  unfolding writesLine lineLeft
+  no-line e = (rw e, rw e)
+
+  pub over-long : limit < length image → (gives [] ≡ writesLine flag image at tail buffer) × (buffer ≡ lineLeft flag image at tail buffer)
+  over-long h = no-line (rw (lt-leb (length image) limit h))
+
+  pub past-end : length image ≤ at → (gives [] ≡ writesLine flag image at tail buffer) × (buffer ≡ lineLeft flag image at tail buffer)
+  past-end h = no-line (rw (le-ltb at (length image) h) (none-inside (leb (length image) limit)))
+
+  pub a-line : length image ≤ limit → at < length image → {a : Answer ℕ} {after : List ℕ}
+      → (a ≡ written (listingLine at (lineAt flag image at tail)) buffer) × (after ≡ filled (listingLine at (lineAt flag image at tail)) buffer)
+      → (one a ≡ writesLine flag image at tail buffer) × (after ≡ lineLeft flag image at tail buffer)
+  unfolding writesLine lineLeft
+  a-line short here w =
+      let e : inside image at ≡ true = rw (le-leb (length image) limit short, lt-ltb at (length image) here) in
+      (rw e (ap one (w .0)), rw e (w .1))
+
+-- ---- a listing
+
+module _ (text buffer : List ℕ) where
+  pub counted-over : (n : ℕ) → n ≡ length text → length buffer < n → (noRoom n ≡ written text buffer) × (buffer ≡ filled text buffer)
+  unfolding written filled
+  counted-over n e h =
+      let l : length buffer < length text = omega arith in
+      (rw (lt-ltb (length buffer) (length text) l, e), rw (lt-ltb (length buffer) (length text) l))
+
+  pub put-whole : (after : List ℕ) (r : ℕ) → Put buffer 0 text after r → (gives r ≡ written text buffer) × (after ≡ filled text buffer)
+  unfolding written filled
+  put-whole after r p =
+      let e = p .next in
+      let l : length text ≤ length buffer = omega (arith, p .room) in
+      (rw (le-ltb (length buffer) (length text) l) (ap gives (omega arith)), rw (le-ltb (length buffer) (length text) l) (p .holds ∙ put-first buffer text))
+
+module _ (flag : Bool) (image buffer : List ℕ) where
+  pub too-long : limit < length image → (tooLong ≡ lists flag image buffer) × (buffer ≡ listLeft flag image buffer)
+  unfolding lists listLeft
+  too-long h = (rw (lt-ltb limit (length image) h), rw (lt-ltb limit (length image) h))
+
+  pub a-listing : length image ≤ limit → {a : Answer ℕ} {after : List ℕ}
+      → (a ≡ written (listing flag image) buffer) × (after ≡ filled (listing flag image) buffer)
+      → (a ≡ lists flag image buffer) × (after ≡ listLeft flag image buffer)
+  unfolding lists listLeft
+  a-listing short w = (rw (le-ltb limit (length image) short) (w .0), rw (le-ltb limit (length image) short) (w .1))
