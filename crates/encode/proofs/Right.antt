@@ -14,7 +14,7 @@ use Rattle.avr.specs.declared.SREGBit.the-variants.{C}
 use Rattle.avr.specs.declared.Instruction.{Instruction}
 use Rattle.manual.specs.Choice.{pick, both, either}
 use Rattle.manual.specs.Pattern.{symbols, select, width, field}
-use Rattle.manual.specs.Rows.{Row, Arg, Name, plain, flagged, rows, noRow, has, accepts, place}
+use Rattle.manual.specs.Rows.{Row, Arg, rows, noRow, has, accepts, place}
 use Rattle.manual.specs.Operands.{argument}
 use Rattle.manual.specs.Decode.{nameOf, rowInstruction}
 use Rattle.manual.specs.Numbers.{numbered, operandNumber, numbersOf}
@@ -32,7 +32,7 @@ use Rattle.encode.proofs.OperandBack.{same-operand}
 use Rattle.encode.proofs.Forms.{numbers-made}
 use Rattle.encode.proofs.Ways.{solid, wide, Held, Second, no-extra, value-of}
 use Rattle.encode.proofs.Build.{build-fits, build-field}
-use Rattle.encode.proofs.Suits.{Suits, numIn, makes-parts}
+use Rattle.encode.proofs.Suits.{Suits, named, numIn, makes-parts}
 use Rattle.encode.proofs.RowFacts as facts
 use Rattle.encode.proofs.Displacements.{leavesQ, rowLeavesQ, displaced, load-displaced, displaced-leaves, lifted}
 
@@ -47,10 +47,6 @@ made d a cs w e o s t h c =
     same-operand (argument a cs w e) o
     (numbers-made (numIn cs w) a e
     ∙ ap₂ numbered (ts .0) (value-of (numIn cs w) d (form a .way) (n .number) e s (ts .1) h c))
-
-named : (a : Name) → codeOfName a ≡ codeOf (nameOf a C)
-named (plain o) = refl
-named (flagged f) = refl
 
 both-none : (a b : Bool) → b ≡ true → both a b ≡ false → a ≡ false
 both-none true b t e = absurd (clash (sym e ∙ t))

@@ -1,5 +1,5 @@
 -- What a row that suits a record has in common with it.
-use mathlib.Core.Path.{_≡_}
+use mathlib.Core.Path.{_≡_, refl}
 use mathlib.Core.Bool.{Bool, true}
 use mathlib.Core.List.{List}
 use Prim.Native.Char.{Char, code}
@@ -12,12 +12,18 @@ use Rattle.avr.specs.declared.Numbers.{Numbers}
 use Rattle.avr.specs.declared.SREGBit.the-variants.{C}
 use Rattle.manual.specs.Choice.{both}
 use Rattle.manual.specs.Pattern.{symbols, select}
-use Rattle.manual.specs.Rows.{Row, has}
+use Rattle.manual.specs.Rows.{Row, Name, plain, flagged, has}
 use Rattle.manual.specs.Operands.{Num, num}
 use Rattle.manual.specs.Decode.{nameOf}
 use Rattle.manual.specs.Ways.{Form, good}
 use Rattle.manual.specs.Encode.{sized, makes, suits}
+use Rattle.rows.specs.Columns.{codeOfName}
 use Rattle.encode.proofs.Truth.{both-true}
+
+-- the name of a row has the same code for every SREG bit
+pub named : (a : Name) → codeOfName a ≡ codeOf (nameOf a C)
+named (plain o) = refl
+named (flagged f) = refl
 
 pub record Suits (r : Row) (flag : Bool) (x : Numbers) : Type 0 where
   pub code : codeOf (nameOf (r .name) C) ≡ x .opcode .code

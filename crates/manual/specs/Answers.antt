@@ -1,6 +1,7 @@
 -- What a call answers: a value, or one of document 01's refusals by its number, with the values that the document says it returns.
 -- For each answer enum of the code, one definition says which of these each of its cases is.
 use Prim.Native.Nat.{ℕ}
+use mathlib.Core.Bool.{Bool, true, false}
 use mathlib.Core.List.{List, [], _∷_}
 use Rattle.avr.specs.declared.Instruction.{Instruction}
 use Rattle.avr.specs.declared.Decoded.{Decoded}
@@ -23,6 +24,10 @@ use Rattle.avr.specs.declared.Encoded.the-variants as encoded
 pub data Answer (A : Type 0) : Type 0 where
   gives : A → Answer A
   refuses : ℕ → List ℕ → Answer A
+
+abbrev pub isGiven : {A : Type 0} → Answer A → Bool
+isGiven (gives x) = true
+isGiven (refuses k vs) = false
 
 -- 1 InvalidOpcode, with the word
 abbrev pub noSuchWord : {A : Type 0} → ℕ → Answer A

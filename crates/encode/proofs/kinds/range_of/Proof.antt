@@ -1,0 +1,81 @@
+-- Each kind's range, and that of nothing past the kinds. Made by tools/arms.
+use borrow.Author.Needs.{needs}
+use lib.ListN.{List·getD-eq-default}
+use Rattle.avr.proofs.Arms.{none-ge}
+use Rattle.manual.specs.Rows.{nothing}
+use Rattle.rows.specs.Kinds.{kinds}
+use Rattle.encode.specs.ByKind.{kindRange}
+use Rattle.encode.proofs.kinds.range_of.Statement.{statement}
+use Rattle.encode.proofs.kinds.range_of.Tie as tie
+
+pub range-of-spec : {M : Type 1} → statement M
+unfolding kinds kindRange
+range-of-spec =
+    tie.close
+    (tie.spec
+    (λ c κs. search needs)
+    (λ c κs. search needs)
+    (λ c κs. search needs)
+    (λ c κs. search needs)
+    (λ c κs. search needs)
+    (λ c κs. search needs)
+    (λ c κs. search needs)
+    (λ c κs. search needs)
+    (λ c κs. search needs)
+    (λ c κs. search needs)
+    (λ c κs. search needs)
+    (λ c κs. search needs)
+    (λ c κs. search needs)
+    (λ c κs. search needs)
+    (λ c κs. search needs)
+    (λ c κs. search needs)
+    (λ c κs. search needs)
+    (λ c κs. search needs)
+    (λ c κs. search needs)
+    (λ c κs. search needs)
+    (λ c κs. search needs)
+    (λ c κs. search needs)
+    (λ c κs. search needs)
+    (λ c κs. search needs)
+    (λ c κs. search needs)
+    (λ c κs. search needs)
+    (λ c κs. search needs)
+    (λ c κs. search needs)
+    (λ c κs. search needs)
+    (λ c κs. search needs)
+    (λ c κs. search needs)
+    (λ c κs. search needs)
+    (λ c κs. search needs)
+    (λ c. rw (c .before .match .keys1, c .span .ensures))
+    (λ c. rw (c .before .match .keys2, c .span2 .ensures))
+    (λ c. rw (c .before .match .keys3, c .span3 .ensures))
+    (λ c. rw (c .before .match .keys4, c .span4 .ensures))
+    (λ c. rw (c .before .match .keys5, c .span5 .ensures))
+    (λ c. rw (c .before .match .keys6, c .span6 .ensures))
+    (λ c. rw (c .before .match .keys7, c .span7 .ensures))
+    (λ c. rw (c .before .match .keys8, c .span8 .ensures))
+    (λ c. rw (c .before .match .keys9, c .span9 .ensures))
+    (λ c. rw (c .before .match .keys10, c .span10 .ensures))
+    (λ c. rw (c .before .match .keys11, c .span11 .ensures))
+    (λ c. rw (c .before .match .keys12, c .span12 .ensures))
+    (λ c. rw (c .before .match .keys13, c .span13 .ensures))
+    (λ c. rw (c .before .match .keys14, c .span14 .ensures))
+    (λ c. rw (c .before .match .keys15, c .span15 .ensures))
+    (λ c. rw (c .before .match .keys16, c .span16 .ensures))
+    (λ c. rw (c .before .match .keys17, c .span17 .ensures))
+    (λ c. rw (c .before .match .keys18, c .span18 .ensures))
+    (λ c. rw (c .before .match .keys19, c .span19 .ensures))
+    (λ c. rw (c .before .match .keys20, c .span20 .ensures))
+    (λ c. rw (c .before .match .keys21, c .span21 .ensures))
+    (λ c. rw (c .before .match .keys22, c .span22 .ensures))
+    (λ c. rw (c .before .match .keys23, c .span23 .ensures))
+    (λ c. rw (c .before .match .keys24, c .span24 .ensures))
+    (λ c. rw (c .before .match .keys25, c .span25 .ensures))
+    (λ c. rw (c .before .match .keys26, c .span26 .ensures))
+    (λ c. rw (c .before .match .keys27, c .span27 .ensures))
+    (λ c. rw (c .before .match .keys28, c .span28 .ensures))
+    (λ c. rw (c .before .match .keys29, c .span29 .ensures))
+    (λ c. rw (c .before .match .keys30, c .span30 .ensures))
+    (λ c. rw (c .before .match .keys31, c .span31 .ensures))
+    (λ c. rw (c .before .match .keys32, c .span32 .ensures))
+    (λ c. rw (List·getD-eq-default kinds nothing {n = c .before .before .args .kind} (none-ge (c .before .before .args .kind) 32 (c .before .match .rest)), c .span33 .ensures)))
