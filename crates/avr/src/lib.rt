@@ -152,9 +152,8 @@ pub enum Line {
     End,
 }
 
-// A line taken, and the state of the walk behind it.
-pub struct Taken {
-    pub line: Line,
+// A state of the walk: the position, and whether the tail has begun.
+pub struct Place {
     pub at: usize,
     pub tail: bool,
 }

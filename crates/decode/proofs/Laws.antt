@@ -1,6 +1,6 @@
 -- What the crates above may know of decoding, so that no change of a row reaches them: what is given has two or four bytes and lies
 -- within those that are there, a word that no row fits has two, and bytes behind either don't matter.
-use mathlib.Core.Path.{_≡_, refl, sym, ap, _∙_}
+use mathlib.Core.Path.{_≡_, refl, sym}
 use mathlib.Core.Logic.{_⊎_, inl, inr}
 use mathlib.Core.Bool.{Bool, true, false}
 use mathlib.Core.List.{List, _++_}

@@ -8,7 +8,7 @@ use lib.ListN.{length, getD, drop}
 use Rattle.avr.specs.declared.Instruction.{Instruction}
 use Rattle.avr.specs.declared.Line.{Line}
 use Rattle.avr.specs.declared.Line.the-variants as line
-use Rattle.avr.specs.declared.Taken.{Taken}
+use Rattle.avr.specs.declared.Place.{Place}
 use Rattle.manual.specs.Choice.{pick}
 use Rattle.manual.specs.Answers.{Answer, gives, refuses, tooLong}
 use Rattle.manual.specs.Decode.{decodes}
@@ -76,11 +76,11 @@ lineAt flag image at tail =
     pick (ltb limit (length image)) line.End
     (pick (ltb at (length image)) (pick tail (line.Byte (getD image at 0)) (headLine flag (drop at image))) line.End)
 
--- that line, and the state behind it
-abbrev pub takenAt : Bool → List ℕ → ℕ → Bool → Taken
-takenAt flag image at tail =
+-- the state behind it: at the end the walk stays
+abbrev pub placeAfter : Bool → List ℕ → ℕ → Bool → Place
+placeAfter flag image at tail =
     let l = lineAt flag image at tail in
-    record { line = l; at = at + lengthOf l; tail = tailAfter l tail }
+    record { at = at + lengthOf l; tail = tailAfter l tail }
 
 -- how many of the lines, the first of which begins at o, begin before p
 abbrev pub begunBefore : ℕ → List Line → ℕ → ℕ

@@ -1,9 +1,9 @@
 -- One line and what is behind it, and induction along a walk, from the laws of decoding alone.
-use mathlib.Core.Path.{_≡_, refl, sym, ap, _∙_}
+use mathlib.Core.Path.{_≡_, refl, ap}
 use mathlib.Core.Logic.{_⊎_, inl, inr}
 use mathlib.Core.Bool.{Bool, true, false}
 use mathlib.Core.List.{List, [], _∷_, map}
-use Prim.Native.Nat.{ℕ, zero, suc, pred, _≤_, _<_}
+use Prim.Native.Nat.{ℕ, zero, suc, pred, _≤_}
 use native.Mathlib.Omega.{arith}
 use lib.Dec.{lit≤}
 use lib.ListN.{length, getD, drop, length-drop}
@@ -11,7 +11,6 @@ use Rattle.avr.specs.declared.Instruction.{Instruction}
 use Rattle.avr.specs.declared.Line.{Line}
 use Rattle.avr.specs.declared.Line.the-variants as line
 use Rattle.manual.specs.Choice.{pick}
-use Rattle.manual.specs.Answers.{Answer, gives, noSuchWord, short}
 use Rattle.manual.specs.Decode.{wordAt}
 use Rattle.manual.specs.Lines.{lineOf, lengthOf, isByte, tailAfter, headLine, linesOwed, linesFrom}
 use Rattle.decode.proofs.Laws.{cases}

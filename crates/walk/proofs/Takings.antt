@@ -2,7 +2,7 @@
 use mathlib.Core.Path.{_≡_, refl, sym, ap, _∙_}
 use mathlib.Core.Bool.{Bool, true, false}
 use mathlib.Core.List.{List, [], _∷_}
-use Prim.Native.Nat.{ℕ, zero, suc, _+_, _≤_, _<_}
+use Prim.Native.Nat.{ℕ, zero, suc, _+_, _≤_}
 use native.Mathlib.Nat.{add-zero}
 use native.Mathlib.Omega.{arith}
 use lib.Dec.{ltb}
@@ -10,8 +10,8 @@ use lib.ListN.{length, drop}
 use borrow.Author.Tests.{ltb-true, ltb-false}
 use Rattle.avr.specs.declared.Line.{Line}
 use Rattle.avr.specs.declared.Line.the-variants as line
-use Rattle.avr.specs.declared.Taken.{Taken}
-use Rattle.manual.specs.Lines.{limit, lengthOf, tailAfter, lineAt, takenAt, linesFrom, lines, begunBefore, countBefore}
+use Rattle.avr.specs.declared.Place.{Place}
+use Rattle.manual.specs.Lines.{limit, lengthOf, tailAfter, lineAt, placeAfter, linesFrom, lines, begunBefore, countBefore}
 use Rattle.walk.specs.Taking.{isEnd, taking, positionAfter}
 use Rattle.walk.proofs.At.{at-length, unroll-at, count-step, count-past, end-over, end-past, left-none, lines-within, count-within}
 use Rattle.walk.proofs.Theorems.{over-long-has-no-lines, over-long-counts-none}
@@ -25,7 +25,7 @@ no-end line.End h = absurd (omega arith)
 module _ (flag : Bool) (image : List ℕ) where
   -- at the end it answers end and stays
   pub stays-at-end : (at : ℕ) (tail : Bool) → lineAt flag image at tail ≡ line.End
-      → _≡_ {A = Taken} (takenAt flag image at tail) (record { line = line.End; at = at; tail = tail })
+      → _≡_ {A = Place} (placeAfter flag image at tail) (record { at = at; tail = tail })
   stays-at-end at tail e = let z = add-zero at in rw (e, z)
 
   take-end : (n at : ℕ) (tail : Bool) → lineAt flag image at tail ≡ line.End → taking n flag image at tail ≡ []

@@ -6,9 +6,9 @@ use Prim.Native.Nat.{ℕ}
 use Rattle.avr.specs.declared.Begun.{Begun}
 use Rattle.avr.specs.declared.Begun.the-variants as begun
 use Rattle.avr.specs.declared.Line.{Line}
-use Rattle.avr.specs.declared.Taken.{Taken}
+use Rattle.avr.specs.declared.Place.{Place}
 use Rattle.manual.specs.Answers.{ofBegun}
-use Rattle.manual.specs.Lines.{begins, lineAt, takenAt, countBefore}
+use Rattle.manual.specs.Lines.{begins, lineAt, placeAfter, countBefore}
 
 pub begun-injective : (a b : Begun) → ofBegun a ≡ ofBegun b → a ≡ b
 begun-injective begun.Ready begun.Ready e = refl
@@ -24,7 +24,7 @@ module _ (image : List ℕ) where
     pub line-at-unique : (a b : Line) → a ≡ lineAt flag image at tail → b ≡ lineAt flag image at tail → a ≡ b
     line-at-unique a b p q = p ∙ sym q
 
-    pub step-unique : (a b : Taken) → a ≡ takenAt flag image at tail → b ≡ takenAt flag image at tail → a ≡ b
+    pub step-unique : (a b : Place) → a ≡ placeAfter flag image at tail → b ≡ placeAfter flag image at tail → a ≡ b
     step-unique a b p q = p ∙ sym q
 
     pub count-before-unique : (a b : ℕ) → a ≡ countBefore flag image at → b ≡ countBefore flag image at → a ≡ b

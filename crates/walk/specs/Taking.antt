@@ -6,11 +6,11 @@ use mathlib.Core.List.{List, [], _∷_}
 use lib.ListN.{getD}
 use Rattle.avr.specs.declared.Line.{Line}
 use Rattle.avr.specs.declared.Line.the-variants as line
-use Rattle.avr.specs.declared.Taken.{Taken}
+use Rattle.avr.specs.declared.Place.{Place}
 use Rattle.manual.specs.Choice.{pick}
 use Rattle.manual.specs.Answers.{gives, noSuchWord}
 use Rattle.manual.specs.Decode.{decodes}
-use Rattle.manual.specs.Lines.{lengthOf, isByte, takenAt}
+use Rattle.manual.specs.Lines.{lengthOf, isByte, lineAt, placeAfter}
 
 abbrev pub isEnd : Line → Bool
 isEnd (line.Instruction x) = false
@@ -22,15 +22,16 @@ isEnd line.End = true
 unfoldable pub taking : ℕ → Bool → List ℕ → ℕ → Bool → List Line
 taking zero flag image at tail = []
 taking (suc n) flag image at tail =
-    let t = takenAt flag image at tail in
-    pick (isEnd (t .line)) [] (t .line ∷ taking n flag image (t .at) (t .tail))
+    let l = lineAt flag image at tail in
+    let next = placeAfter flag image at tail in
+    pick (isEnd l) [] (l ∷ taking n flag image (next .at) (next .tail))
 
 -- the position after n takes
 unfoldable pub positionAfter : ℕ → Bool → List ℕ → ℕ → Bool → ℕ
 positionAfter zero flag image at tail = at
 positionAfter (suc n) flag image at tail =
-    let t = takenAt flag image at tail in
-    positionAfter n flag image (t .at) (t .tail)
+    let next = placeAfter flag image at tail in
+    positionAfter n flag image (next .at) (next .tail)
 
 -- the lengths of all lines
 abbrev pub total : List Line → ℕ

@@ -3,11 +3,11 @@
 use avr::Begun;
 use avr::Decoded;
 use avr::Line;
-use avr::Taken;
+use avr::Place;
 use avr::Target;
 ghost use mathlib.Core.Path.{_≡_};
 ghost use Rattle.manual.specs.Answers.{ofDecoded, ofBegun};
-ghost use Rattle.manual.specs.Lines.{lineOf, lengthOf, tailAfter, begins, lineAt, takenAt, countBefore};
+ghost use Rattle.manual.specs.Lines.{lineOf, lengthOf, tailAfter, begins, lineAt, placeAfter, countBefore};
 
 // Refusal 5.
 pub fn may_begin(image: &[u8]) -> Begun
@@ -75,15 +75,14 @@ pub fn tail_after(l: Line, tail: bool) -> bool
     }
 }
 
-// The line at a state, and the state behind it: where the next line begins. At the end it stays.
-pub fn step(image: &[u8], at: usize, tail: bool, target: Target) -> Taken
-    ensures { λ r. ⌜ r ≡ takenAt (target .has_16_bit_lds_sts) (now (image .entry)) at tail ⌝ }
+// The state behind the line at a state: where the next line begins. At the end it stays.
+pub fn step(image: &[u8], at: usize, tail: bool, target: Target) -> Place
+    ensures { λ r. ⌜ r ≡ placeAfter (target .has_16_bit_lds_sts) (now (image .entry)) at tail ⌝ }
 {
     let line = line_at(image, at, tail, target);
     let n = line_length(line);
     let t = tail_after(line, tail);
-    Taken {
-        line,
+    Place {
         at: at + n,
         tail: t,
     }
@@ -100,9 +99,9 @@ pub fn count_before(image: &[u8], target: Target, position: usize) -> usize
     let mut at: usize = 0;
     let mut tail = false;
     while at < image.len() && at < position {
-        let t = step(image, at, tail, target);
-        at = t.at;
-        tail = t.tail;
+        let next = step(image, at, tail, target);
+        at = next.at;
+        tail = next.tail;
         n += 1;
     }
     n

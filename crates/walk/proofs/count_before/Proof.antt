@@ -1,13 +1,12 @@
 -- The lines counted so far and those from the state on are all that begin before the position.
-use mathlib.Core.Path.{_≡_, sym, ap, _∙_}
-use mathlib.Core.Bool.{Bool}
-use Prim.Native.Nat.{ℕ, _+_, _-_, _≤_}
+use mathlib.Core.Path.{_≡_, sym, ap}
+use Prim.Native.Nat.{_+_, _-_, _≤_}
 use native.Mathlib.Omega.{arith}
 use lib.ListN.{length, drop}
 use denote.Ref.{now}
 use borrow.Author.Needs.{needs}
 use borrow.Author.Tests.{ltb-true, ltb-false}
-use Rattle.avr.specs.declared.Taken.{Taken}
+use Rattle.avr.specs.declared.Place.{Place}
 use Rattle.manual.specs.Lines.{limit, begunBefore, linesFrom, countBefore}
 use Rattle.walk.proofs.At.{at-length, count-step, count-past, left-none, count-within}
 use Rattle.walk.proofs.Theorems.{over-long-counts-none}
@@ -37,7 +36,7 @@ loop-less c =
     let l = c .before .before .before in
     let a = l .before .before .before .args in
     let k = at-length (a .target .«has_16_bit_lds_sts») (now (a .image)) (l .loop .at) (l .loop .tail) (l .loop .inv .1) (omega arith) in
-    let e = ap (λ (t : Taken). t .at) (c .step .ensures) in
+    let e = ap (λ (p : Place). p .at) (c .step .ensures) in
     omega arith
 
 loop-again : tie.Need-loop-again Inv-loop μ-loop
@@ -45,8 +44,8 @@ loop-again c =
     let l = c .before .before .before in
     let a = l .before .before .before .args in
     let k = at-length (a .target .«has_16_bit_lds_sts») (now (a .image)) (l .loop .at) (l .loop .tail) (l .loop .inv .1) (omega arith) in
-    let e = ap (λ (t : Taken). t .at) (c .step .ensures) in
-    let f = ap (λ (t : Taken). t .tail) (c .step .ensures) in
+    let e = ap (λ (p : Place). p .at) (c .step .ensures) in
+    let f = ap (λ (p : Place). p .tail) (c .step .ensures) in
     let g = count-step (a .target .«has_16_bit_lds_sts») (now (a .image)) (l .loop .at) (l .loop .tail) (l .loop .inv .1) (omega arith) (a .position)
     (ltb-true _ _ (c .before .if2 .taken)) in
     (omega arith, omega arith, omega arith, rw (e, f) (omega arith))

@@ -1,0 +1,35 @@
+-- Two answers that a statement allows are equal, and so are two readers.
+use mathlib.Core.Path.{_≡_, sym, _∙_}
+use mathlib.Core.List.{List}
+use Prim.Native.Nat.{ℕ}
+use denote.Ref.{RefT, now}
+use Rattle.avr.specs.declared.Line.{Line}
+use Rattle.avr.specs.declared.Target.{Target}
+use Rattle.manual.specs.Answers.{ofBegun}
+use Rattle.manual.specs.Lines.{begins}
+use Rattle.walk.proofs.Unique.{may-begin-unique}
+use Rattle.reader.specs.declared.Reader.{Reader}
+use Rattle.reader.specs.declared.Started.{Started}
+use Rattle.reader.specs.State.{begin, rewound, lineHere, after, countHere}
+
+abbrev Starts : RefT (List ℕ) → Target → Started → Type 0
+Starts image target s = (ofBegun (s .answer) ≡ begins (now image)) × (s .reader ≡ begin image target)
+
+pub start-unique : (image : RefT (List ℕ)) (target : Target) (a b : Started) → Starts image target a → Starts image target b → a ≡ b
+start-unique image target a b p q =
+    let e = may-begin-unique (now image) (a .answer) (b .answer) (p .0) (q .0) in
+    let f = p .1 ∙ sym (q .1) in
+    λ i. record { answer = e i; reader = f i }
+
+module _ (r : Reader) where
+  pub rewind-unique : (a b : Reader) → a ≡ rewound r → b ≡ rewound r → a ≡ b
+  rewind-unique a b p q = p ∙ sym q
+
+  pub take-unique : (l m : Line) (a b : Reader) → (l ≡ lineHere r) × (a ≡ after r) → (m ≡ lineHere r) × (b ≡ after r) → (l ≡ m) × (a ≡ b)
+  take-unique l m a b p q = (p .0 ∙ sym (q .0), p .1 ∙ sym (q .1))
+
+  pub look-unique : (l m : Line) → l ≡ lineHere r → m ≡ lineHere r → l ≡ m
+  look-unique l m p q = p ∙ sym q
+
+  pub count-unique : (m n : ℕ) → m ≡ countHere r → n ≡ countHere r → m ≡ n
+  count-unique m n p q = p ∙ sym q
