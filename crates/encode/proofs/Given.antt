@@ -9,6 +9,7 @@ use lib.ListN.{length}
 use borrow.Author.Tests.{eqb-true, eqb-false, ne-eqb}
 use Rattle.avr.specs.declared.Numbers.{Numbers}
 use Rattle.avr.specs.declared.Instruction.{Instruction}
+use Rattle.manual.specs.Answers.{gives}
 use Rattle.manual.specs.Choice.{pick, either}
 use Rattle.manual.specs.Rows.{Row}
 use Rattle.manual.specs.Decode.{rowInstruction}
@@ -53,9 +54,8 @@ module _ (flag : Bool) (x : Instruction) (i : ℕ) (h : i < 103) (s : Suits (row
       record {
         bytes = bytes-of w [] (word-lt i h n) no-bytes;
         decoded =
-            sym
-            (two flag (wordBytes w []) w i (lit< tt) (omega arith) (sym (place-is flag x i h s)) h (bytes-are i h ∙ b) x
-            (sym (ap (rowInstruction r w) (sym (no-second i h n b)) ∙ same-record flag x i h s)));
+            sym (two flag (wordBytes w []) w i (lit< tt) (omega arith) (sym (place-is flag x i h s)) h (bytes-are i h ∙ b))
+            ∙ ap gives (ap (rowInstruction r w) (sym (no-second i h n b)) ∙ same-record flag x i h s);
         length = sym b ∙ length-is;
       }
 
@@ -65,8 +65,8 @@ module _ (flag : Bool) (x : Instruction) (i : ℕ) (h : i < 103) (s : Suits (row
         bytes = bytes-of w (wordBytes e []) (word-lt i h n) (bytes-of e [] (seat-extra-lt i h n flag s) no-bytes);
         decoded =
             sym
-            (four flag (wordBytes w (wordBytes e [])) w i (lit< tt) (omega arith) (sym (place-is flag x i h s)) h (λ k. b (sym (bytes-are i h) ∙ k)) (lit< tt) e (omega arith) x
-            (sym (same-record flag x i h s)));
+            (four flag (wordBytes w (wordBytes e [])) w i (lit< tt) (omega arith) (sym (place-is flag x i h s)) h (λ k. b (sym (bytes-are i h) ∙ k)) (lit< tt) e (omega arith))
+            ∙ ap gives (same-record flag x i h s);
         length = sym (eqb-true (r .bytes) 4 (ap (λ (v : Bool). either v (eqb (r .bytes) 4)) (sym (ne-eqb (r .bytes) 2 b)) ∙ facts.two-or-four i h)) ∙ length-is;
       }
 
