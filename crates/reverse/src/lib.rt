@@ -1,0 +1,1 @@
+// The reverse reading: every string of bytes that prints as a line.
