@@ -1,7 +1,7 @@
 // Parts of a line, and the number that its digits make.
 ghost use mathlib.Core.Path.{_≡_};
 ghost use Prim.Native.Nat.{_<_, _≤_};
-ghost use lib.ListN.{length, drop};
+ghost use lib.ListN.{length, drop, getD};
 ghost use Rattle.cut.specs.Cut.{upTo, past, digitOf, valueFrom, same};
 
 fn find(s: &[u8], c: u8) -> usize
@@ -36,6 +36,13 @@ pub fn behind<'a>(s: &'a [u8], c: u8) -> &'a [u8]
     } else {
         &s[n..]
     }
+}
+
+// The first byte, 0 where there is none.
+pub fn head(s: &[u8]) -> u8
+    ensures { λ r. ⌜ r ≡ getD (now (s .entry)) 0 0 ⌝ }
+{
+    if 0 < s.len() { s[0] } else { 0 }
 }
 
 // All bytes but the first.

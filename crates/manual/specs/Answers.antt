@@ -82,11 +82,11 @@ ofListed (listed.NoRoom n) = noRoom n
 ofListed listed.TooLong = tooLong
 
 -- the reverse reading refuses nothing: it gives a list of strings
-abbrev pub bytesOf : Str → List ℕ
-bytesOf (str.Short a b) = a ∷ b ∷ []
-bytesOf (str.Long a b c d) = a ∷ b ∷ c ∷ d ∷ []
+abbrev pub stringOf : Str → List ℕ
+stringOf (str.Short a b) = a ∷ b ∷ []
+stringOf (str.Long a b c d) = a ∷ b ∷ c ∷ d ∷ []
 
 abbrev pub stringsOf : Strings → List (List ℕ)
 stringsOf strings.None = []
-stringsOf (strings.One s) = bytesOf s ∷ []
-stringsOf (strings.Two s t) = bytesOf s ∷ bytesOf t ∷ []
+stringsOf (strings.One s) = stringOf s ∷ []
+stringsOf (strings.Two s t) = stringOf s ∷ stringOf t ∷ []

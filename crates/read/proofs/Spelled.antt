@@ -1,0 +1,118 @@
+-- Every operand that a row makes is one that is read back: by a test of the rows, which computes.
+use mathlib.Core.Path.{_≡_, refl, sym, ap, _∙_}
+use mathlib.Core.Bool.{Bool, true, false, not}
+use mathlib.Core.List.{List, [], _∷_}
+use Prim.Native.Nat.{ℕ, zero, suc, _+_, _-_, _*_, _/_, _%_, _^_, _≤_, _<_}
+use Prim.Native.Char.{Char, code}
+use native.Mathlib.Nat.{pow-suc, lt-of-lt-of-le, pow-le-pow-right}
+use native.Mathlib.Omega.{arith}
+use lib.Dec.{eqb, ltb, leb, lit<}
+use lib.IntN.{ℤ, pos, negsuc, negℤ}
+use borrow.Author.Tests.{leb-true}
+use Rattle.avr.specs.declared.SREGBit.{SREGBit}
+use Rattle.avr.specs.declared.SREGBit.the-variants.{C, Z, N, «V», S, H, T, I}
+use Rattle.avr.specs.declared.IndexRegisterModifier.{IndexRegisterModifier}
+use Rattle.avr.specs.declared.IndexRegisterModifier.the-variants as modifier
+use Rattle.avr.specs.declared.Operand.the-variants as operand
+use Rattle.manual.specs.Choice.{pick, both}
+use Rattle.manual.specs.Pattern.{symbols, select, bits, width, onto}
+use Rattle.manual.specs.Rows as arg
+use Rattle.manual.specs.Rows.{Arg, Row, rows}
+use Rattle.manual.specs.Operands.{nearOf, lowOf, farOf, mapArg, argument}
+use Rattle.read.proofs.Operands.{Spelled}
+
+-- ---- a letter's number fits its bits
+
+onto-lt : (s : Bool) (b n k : ℕ) → b < 2 → n < 2 ^ k → onto s b n < 2 ^ (pick s 1 0 + k)
+onto-lt true b n k hb h = rw (pow-one-add k) (omega arith)
+  where
+    pow-one-add : (k : ℕ) → 2 ^ (1 + k) ≡ 2 ^ k * 2
+    pow-one-add k = let e : 1 + k ≡ suc k = omega arith in rw e (pow-suc 2 k)
+onto-lt false b n k hb h = let e : 0 + k ≡ k = omega arith in rw e h
+
+pub bits-lt : (ss : List Bool) (w : ℕ) → bits ss w < 2 ^ width ss
+bits-lt [] w = lit< tt
+bits-lt (s ∷ ss) w = onto-lt s (w % 2) (bits ss (w / 2)) (width ss) (omega arith) (bits-lt ss (w / 2))
+
+-- a number of at most n bits
+short : (k n b : ℕ) → b < 2 ^ k → leb k n ≡ true → b < 2 ^ n
+short k n b h t = lt-of-lt-of-le h (pow-le-pow-right (lit< tt) (leb-true k n t))
+
+-- ---- an argument makes operands that are read back, by the sizes of its letters
+
+abbrev plainChange : IndexRegisterModifier → Bool
+plainChange modifier.Unchanged = true
+plainChange modifier.PostIncrement = true
+plainChange modifier.PreDecrement = true
+plainChange (modifier.Displacement q) = false
+
+-- m: whether a number behind `$` is said to be an immediate
+unfoldable pub spells : Bool → Arg ℕ → Bool
+spells m arg.nothing = true
+spells m (arg.reg k) = leb k 7
+spells m (arg.high k) = leb k 7
+spells m (arg.pair k) = leb k 7
+spells m (arg.pair24 k) = leb k 7
+spells m (arg.index i c) = plainChange c
+spells m (arg.disp i k) = leb k 8
+spells m (arg.imm k) = both m (leb k 8)
+spells m (arg.bit k) = leb k 3
+spells m (arg.rel k) = leb k 12
+spells m (arg.abs k) = both (not m) (leb k 24)
+spells m (arg.abs7 k) = both (not m) (leb k 7)
+spells m arg.word = not m
+spells m (arg.far k) = both (not m) (leb k 6)
+
+neg-spelled : (m : Bool) (n : ℕ) → n < 32768 → Spelled m (operand.AddrPCRelative (negℤ (pos n)))
+neg-spelled m zero h = h
+neg-spelled m (suc n) h = h
+
+near-spelled : (m : Bool) (k v : ℕ) → v < 2 ^ k → leb k 12 ≡ true → Spelled m (operand.AddrPCRelative (nearOf k v))
+near-spelled m k v h t = go (ltb v (2 ^ (k - 1)))
+  where
+    go : (b : Bool) → Spelled m (operand.AddrPCRelative (pick b (pos (v + 1)) (negℤ (pos (2 ^ k - 1 - v)))))
+    go true = let l = short k 12 v h t in omega (arith, l)
+    go false = let l : 2 ^ k ≤ 2 ^ 12 = pow-le-pow-right (lit< tt) (leb-true k 12 t) in neg-spelled m (2 ^ k - 1 - v) (omega (arith, l))
+
+-- m is false, and the rest holds
+negative : (m t : Bool) → both (not m) t ≡ true → (m ≡ false) × (t ≡ true)
+negative true t h = let e : false ≡ true = h in (cc, cc)
+negative false t h = (refl, h)
+
+positive : (m t : Bool) → both m t ≡ true → (m ≡ true) × (t ≡ true)
+positive true t h = (refl, h)
+positive false t h = let e : false ≡ true = h in (cc, cc)
+
+module _ (m : Bool) (cs : List ℕ) (w e : ℕ) (small : e < 65536) where
+  lt : (x : Char) → bits (select (code x) cs) w < 2 ^ width (select (code x) cs)
+  lt x = bits-lt (select (code x) cs) w
+
+  pub spelled : (a : Arg Char) → spells m (mapArg (λ x. width (select (code x) cs)) a) ≡ true → Spelled m (argument a cs w e)
+  unfolding spells
+  spelled arg.nothing t = tt
+  spelled (arg.reg x) t = let l = short _ 7 _ (lt x) t in omega (arith, l)
+  spelled (arg.high x) t = let l = short _ 7 _ (lt x) t in omega (arith, l)
+  spelled (arg.pair x) t = let l = short _ 7 _ (lt x) t in omega (arith, l)
+  spelled (arg.pair24 x) t = let l = short _ 7 _ (lt x) t in omega (arith, l)
+  spelled (arg.index i modifier.Unchanged) t = tt
+  spelled (arg.index i modifier.PostIncrement) t = tt
+  spelled (arg.index i modifier.PreDecrement) t = tt
+  spelled (arg.index i (modifier.Displacement q)) t = absurd (let z : _≡_ {A = ℕ} 0 1 = cc in let y : ⊥ = omega arith in y)
+  spelled (arg.disp i x) t = let l = short _ 8 _ (lt x) t in omega (arith, l)
+  spelled (arg.imm x) t = let p = positive m _ t in (p .0, short _ 8 _ (lt x) (p .1))
+  spelled (arg.bit x) t = let l = short _ 3 _ (lt x) t in omega (arith, l)
+  spelled (arg.rel x) t = near-spelled m _ _ (lt x) t
+  spelled (arg.abs x) t = let p = negative m _ t in (p .0, short _ 24 _ (lt x) (p .1))
+  spelled (arg.abs7 x) t =
+      let p = negative m _ t in
+      let l = short _ 7 _ (lt x) (p .1) in
+      (p .0, omega (arith, l))
+  spelled arg.word t = (no m t, omega arith)
+    where
+      no : (m : Bool) → not m ≡ true → m ≡ false
+      no true h = let e : false ≡ true = h in cc
+      no false h = refl
+  spelled (arg.far x) t =
+      let p = negative m _ t in
+      let l = short _ 6 _ (lt x) (p .1) in
+      (p .0, omega (arith, l))

@@ -1,0 +1,161 @@
+// Reading a line of text as a record.
+ghost use mathlib.Core.Path.{_≡_};
+ghost use Prim.Native.Nat.{_<_, _≤_};
+ghost use Rattle.text.specs.Names.{nameBytes, nameLengths, nameAt};
+ghost use Rattle.cut.specs.Cut.{same};
+ghost use Rattle.read.specs.Operands.{indexAs, changeAs, registerAs, distanceAs, operandAs};
+ghost use Rattle.read.specs.Line.{numberAs, opcodeFrom, immediateSecond, lineAs};
+use avr::IndexRegister;
+use avr::IndexRegisterModifier;
+use avr::Instruction;
+use avr::Opcode;
+use avr::Operand;
+use avr::Register;
+use text::names::LENGTHS;
+use text::names::NAMES;
+
+fn index_as(c: u8) -> IndexRegister
+    ensures { λ r. ⌜ r ≡ indexAs c ⌝ }
+{
+    if c == b'x' {
+        return IndexRegister::X;
+    }
+    if c == b'y' {
+        return IndexRegister::Y;
+    }
+    IndexRegister::Z
+}
+
+fn change_as(s: &[u8]) -> IndexRegisterModifier
+    ensures { λ r. ⌜ r ≡ changeAs (now (s .entry)) ⌝ }
+{
+    if s.len() < 1 {
+        return IndexRegisterModifier::Unchanged;
+    }
+    if s.len() < 2 {
+        return IndexRegisterModifier::PostIncrement;
+    }
+    let n = cut::value(cut::tail(s), 10);
+    IndexRegisterModifier::Displacement((n % 256) as u8)
+}
+
+fn register_as(s: &[u8]) -> Register
+    ensures { λ r. ⌜ r ≡ registerAs (now (s .entry)) ⌝ }
+{
+    let high = cut::before(s, b':');
+    if high.len() < s.len() {
+        let n = cut::value(cut::tail(cut::behind(s, b':')), 10);
+        return Register::RegisterPair {
+            low: (n / 2 % 256) as u8,
+        };
+    }
+    let n = cut::value(s, 10);
+    Register::Register((n % 256) as u8)
+}
+
+fn distance_as(s: &[u8]) -> i16
+    ensures { λ r. ⌜ r ≡ distanceAs (now (s .entry)) ⌝ }
+{
+    let n = (cut::value(cut::tail(s), 10) % 32768) as i16;
+    if cut::head(s) == b'-' {
+        return -n;
+    }
+    n
+}
+
+// An operand; a number behind `$` is an immediate if it is said to be one, else an address.
+pub fn operand_as(s: &[u8], immediate: bool) -> Operand
+    ensures { λ r. ⌜ r ≡ operandAs immediate (now (s .entry)) ⌝ }
+{
+    let c = cut::head(s);
+    let t = cut::tail(s);
+    if c == b'r' {
+        return Operand::Register(register_as(t));
+    }
+    if c == b'$' {
+        let n = cut::value(t, 16);
+        if immediate {
+            return Operand::ImmediateU8((n % 256) as u8);
+        }
+        return Operand::AddrAbsolute(n);
+    }
+    if c == b'p' {
+        return Operand::AddrPCRelative(distance_as(cut::tail(t)));
+    }
+    if c == b'-' {
+        let i = index_as(cut::head(t));
+        return Operand::Register(Register::IndexRegister(i, IndexRegisterModifier::PreDecrement));
+    }
+    if c == 0 {
+        return Operand::Nothing;
+    }
+    if c < 65 {
+        return Operand::BitIndex((cut::value(s, 10) % 256) as u8);
+    }
+    Operand::Register(Register::IndexRegister(index_as(c), change_as(t)))
+}
+
+// The mnemonic of number i is s.
+fn name_is(names: &[u8; 660], lengths: &[u8; 110], i: usize, s: &[u8]) -> bool
+    requires { ⌜ (now names ≡ nameBytes) × (now lengths ≡ nameLengths) × (i < 110) ⌝ }
+    ensures { λ r. ⌜ r ≡ same (nameAt i) (now (s .entry)) ⌝ }
+{
+    let a = i * 6;
+    let e = a + lengths[i] as usize;
+    let all = &names[..];
+    cut::equal(&all[a..e], s)
+}
+
+// The number of a mnemonic in the writer's table, 110 where it is not there.
+fn number_as(s: &[u8]) -> usize
+    ensures { λ r. ⌜ (r ≡ numberAs (now (s .entry))) × (r ≤ 110) ⌝ }
+{
+    let names = NAMES;
+    let lengths = LENGTHS;
+    let mut i = 0;
+    while i < 110 {
+        if name_is(&names, &lengths, i, s) {
+            return i;
+        }
+        i += 1;
+    }
+    i
+}
+
+fn opcode_from(n: usize) -> Opcode
+    requires { ⌜ n ≤ 110 ⌝ }
+    ensures { λ r. ⌜ r ≡ opcodeFrom n ⌝ }
+{
+    if n < 78 {
+        return avr::opcode_of(n as u8, avr::sreg_of(0));
+    }
+    let k = (n - 78) / 8;
+    let bit = ((n - 78) % 8) as u8;
+    avr::opcode_of((6 + k + (k + 1) / 2) as u8, avr::sreg_of(bit))
+}
+
+fn immediate_second(n: usize) -> bool
+    ensures { λ r. ⌜ r ≡ immediateSecond n ⌝ }
+{
+    if n == 31 {
+        return false;
+    }
+    n != 40
+}
+
+// The record of a line, of the given length. Of a line that is no record's text, it is some record: see what that prints as.
+pub fn line_as(line: &[u8], length: u8) -> Instruction
+    ensures { λ r. ⌜ r ≡ lineAs (now (line .entry)) length ⌝ }
+{
+    let n = number_as(cut::before(line, b' '));
+    let rest = cut::behind(line, b' ');
+    let opcode = opcode_from(n);
+    let first = operand_as(cut::before(rest, b','), n == 21);
+    let second = operand_as(cut::tail(cut::behind(rest, b',')), immediate_second(n));
+    Instruction {
+        opcode,
+        first,
+        second,
+        length,
+    }
+}

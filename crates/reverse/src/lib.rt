@@ -1,0 +1,2 @@
+// The reverse reading: every string of bytes that prints as a line.
+pub mod listing;
