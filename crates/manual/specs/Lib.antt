@@ -14,4 +14,5 @@ pub mod Text
 pub mod Writing
 pub mod Lines
 pub mod Listing
+pub mod Frames
 pub mod Reverse
