@@ -203,6 +203,10 @@ pub enum Listed {
     Done(usize),
     NoRoom(usize),
     TooLong,
+// What answering a frame's line answers: how many bytes it wrote, or how many it needs.
+pub enum Answered {
+    Done(usize),
+    NoRoom(usize),
 }
 
 // An opcode in numbers: its code, and the number of the SREG bit that four of the opcodes hold, 0 for the others.

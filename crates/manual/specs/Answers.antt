@@ -16,6 +16,8 @@ use Rattle.avr.specs.declared.Str.{Str}
 use Rattle.avr.specs.declared.Str.the-variants as str
 use Rattle.avr.specs.declared.Strings.{Strings}
 use Rattle.avr.specs.declared.Strings.the-variants as strings
+use Rattle.avr.specs.declared.Answered.{Answered}
+use Rattle.avr.specs.declared.Answered.the-variants as answered
 use Rattle.avr.specs.declared.Written.{Written}
 use Rattle.avr.specs.declared.Written.the-variants as written
 use Rattle.avr.specs.declared.Encoded.{Encoded}
@@ -49,6 +51,10 @@ noSuchRecord = refuses 4 []
 abbrev pub tooLong : {A : Type 0} → Answer A
 tooLong = refuses 5 []
 
+-- 6 bad frame, with nothing
+abbrev pub badFrame : {A : Type 0} → Answer A
+badFrame = refuses 6 []
+
 abbrev pub ofDecoded : Decoded → Answer Instruction
 ofDecoded (decoded.Instruction x) = gives x
 ofDecoded (decoded.InvalidOpcode w) = noSuchWord w
@@ -64,6 +70,11 @@ abbrev pub ofWritten : Written → Answer ℕ
 ofWritten (written.Done n) = gives n
 ofWritten written.NoSuchRecord = noSuchRecord
 ofWritten (written.NoRoom n) = noRoom n
+
+-- how many bytes of a frame's answer were written
+abbrev pub ofAnswered : Answered → Answer ℕ
+ofAnswered (answered.Done n) = gives n
+ofAnswered (answered.NoRoom n) = noRoom n
 
 -- a walk that may begin gives nothing but that
 abbrev pub ofBegun : Begun → Answer (Unit {0})

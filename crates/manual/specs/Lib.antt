@@ -15,4 +15,5 @@ pub mod Writing
 pub mod Lines
 pub mod Listing
 pub mod Lists
+pub mod Frames
 pub mod Reverse

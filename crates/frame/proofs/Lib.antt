@@ -1,0 +1,7 @@
+pub mod Digits
+pub mod Spelt
+pub mod Begins
+pub mod Chunks
+pub mod Steps
+pub mod Short
+pub mod Unique

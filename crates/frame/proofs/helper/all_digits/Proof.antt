@@ -1,0 +1,44 @@
+-- The bytes before i are digits.
+use mathlib.Core.Path.{_≡_, refl, sym, _∙_}
+use Prim.Native.Nat.{_-_, _≤_}
+use denote.Ref.{now}
+use lib.ListN.{length, drop}
+use borrow.Author.Needs.{needs}
+use native.Mathlib.Omega.{arith}
+use Rattle.manual.specs.Frames.{allDigits}
+use Rattle.frame.proofs.Digits.{digit-told, no-digit, digits-step, digits-end}
+use Rattle.frame.proofs.helper.all_digits.Statement.{statement}
+use Rattle.frame.proofs.helper.all_digits.Tie as tie
+
+abbrev Inv-loop : tie.InvT-loop
+Inv-loop s i₀ i = (i ≤ length s) × (allDigits s ≡ allDigits (drop i s))
+
+abbrev μ-loop : tie.MeasureT-loop
+μ-loop s i₀ i = length s - i
+
+returns : tie.Need-returns Inv-loop μ-loop
+returns c =
+    let s = now (c .before .before .before .before .before .before .args .s) in
+    let i = c .before .before .before .before .loop .i in
+    sym (c .before .before .before .before .loop .inv .1 ∙ digits-step s i (c .before .before .before .loop-test .taken) ∙ rw (no-digit _ (rw (c .before .digit-value .ensures) at (c .if1 .taken))))
+
+loop-again : tie.Need-loop-again Inv-loop μ-loop
+loop-again c =
+    let s = now (c .before .before .before .before .before .before .args .s) in
+    let i = c .before .before .before .before .loop .i in
+    (omega arith, c .before .before .before .before .loop .inv .1 ∙ digits-step s i (c .before .before .before .loop-test .taken) ∙ rw (digit-told _ (rw (c .before .digit-value .ensures) at (c .if1 .left))))
+
+pub all-digits-spec : {M : Type 1} → statement M
+all-digits-spec =
+    tie.close
+    (tie.spec
+    Inv-loop
+    μ-loop
+    (λ c. (omega arith, refl))
+    (λ c. search needs)
+    (λ c κs. search needs)
+    returns
+    (λ c. search needs)
+    (λ c. search needs)
+    loop-again
+    (λ c. sym (c .before .loop .inv .1 ∙ digits-end (now (c .before .before .before .args .s)) (c .before .loop .i) (search needs))))

@@ -1,0 +1,28 @@
+-- Each test is one part of the definition.
+use mathlib.Core.Path.{sym, ap, _∙_}
+use Prim.Native.Nat.{ℕ}
+use denote.Ref.{now}
+use lib.Dec.{leb}
+use borrow.Author.Needs.{needs}
+use borrow.Author.Tests.{le-leb, lt-leb, eq-eqb, ne-eqb, not-true, not-false}
+use Rattle.manual.specs.Frames.{isSpelt}
+use Rattle.frame.specs.Digits.{isFrame}
+use Rattle.frame.proofs.Spelt.{spelt-at}
+use Rattle.frame.proofs.helper.is_frame.Statement.{statement}
+use Rattle.frame.proofs.helper.is_frame.Tie as tie
+
+pub is-frame-spec : {M : Type 1} → statement M
+unfolding isFrame isSpelt
+is-frame-spec =
+    tie.close
+    (tie.spec
+    (λ c. rw (lt-leb 2 _ (c .if1 .taken)))
+    (λ c. rw (le-leb 2 _ (c .before .if1 .left), lt-leb _ 130 (c .if2 .taken)))
+    (λ c. rw (le-leb 2 _ (c .before .before .if1 .left), le-leb _ 130 (c .before .if2 .left), ne-eqb _ 0 (c .if3 .taken)))
+    (λ c κs. search needs)
+    (λ c. rw (le-leb 2 _ (c .before .before .before .before .if1 .left), le-leb _ 130 (c .before .before .before .if2 .left), eq-eqb _ 0 (c .before .before .if3 .left), ← c .before .all-digits .ensures, not-true (c .before .all-digits .result) (c .if4 .taken)))
+    (λ c κs. (search needs, sym (c .before .all-digits .ensures) ∙ not-false (c .before .all-digits .result) (c .if4 .left)))
+    (λ c.
+    let s = now (c .before .before .before .before .before .before .before .args .line) in
+    let e = c .pair .ensures ∙ sym (spelt-at s 0 (search needs)) in
+    rw (le-leb 2 _ (c .before .before .before .before .before .if1 .left), le-leb _ 130 (c .before .before .before .before .if2 .left), eq-eqb _ 0 (c .before .before .before .if3 .left), ← c .before .before .all-digits .ensures, not-false (c .before .before .all-digits .result) (c .before .if4 .left)) (ap (λ (x : ℕ). leb x 1) e)))
