@@ -203,6 +203,8 @@ pub enum Listed {
     Done(usize),
     NoRoom(usize),
     TooLong,
+}
+
 // What answering a frame's line answers: how many bytes it wrote, or how many it needs.
 pub enum Answered {
     Done(usize),
