@@ -1,5 +1,5 @@
 -- What the states of a reader are: rewound it is as new, at the end it answers end and stays, and its count is that of the lines taken.
-use mathlib.Core.Path.{_≡_, refl, sym, ap, _∙_}
+use mathlib.Core.Path.{_≡_, refl, ap}
 use mathlib.Core.Bool.{false}
 use mathlib.Core.List.{List}
 use Prim.Native.Nat.{ℕ, zero, suc, _≤_, _<_}
@@ -8,7 +8,7 @@ use denote.Ref.{RefT, now}
 use Rattle.avr.specs.declared.Line.the-variants as line
 use Rattle.avr.specs.declared.Place.{Place}
 use Rattle.avr.specs.declared.Target.{Target}
-use Rattle.manual.specs.Lines.{limit, lines, countBefore}
+use Rattle.manual.specs.Lines.{limit, lines}
 use Rattle.walk.specs.Taking.{taking, positionAfter}
 use Rattle.walk.proofs.At.{end-over}
 use Rattle.walk.proofs.Takings.{stays-at-end, taking-gives-the-lines, count-is-of-the-taken}

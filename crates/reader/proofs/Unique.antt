@@ -3,14 +3,17 @@ use mathlib.Core.Path.{_≡_, sym, _∙_}
 use mathlib.Core.List.{List}
 use Prim.Native.Nat.{ℕ}
 use denote.Ref.{RefT, now}
+use Rattle.avr.proofs.Unique.{one-answer}
 use Rattle.avr.specs.declared.Line.{Line}
+use Rattle.avr.specs.declared.LineWritten.{LineWritten}
 use Rattle.avr.specs.declared.Target.{Target}
-use Rattle.manual.specs.Answers.{ofBegun}
+use Rattle.manual.specs.Answers.{ofBegun, ofLineWritten}
 use Rattle.manual.specs.Lines.{begins}
 use Rattle.walk.proofs.Unique.{may-begin-unique}
+use Rattle.listing.proofs.Unique.{write-line-unique}
 use Rattle.reader.specs.declared.Reader.{Reader}
 use Rattle.reader.specs.declared.Started.{Started}
-use Rattle.reader.specs.State.{begin, rewound, lineHere, after, countHere}
+use Rattle.reader.specs.State.{begin, rewound, lineHere, after, countHere, writesHere, leftHere}
 
 abbrev Starts : RefT (List ℕ) → Target → Started → Type 0
 Starts image target s = (ofBegun (s .answer) ≡ begins (now image)) × (s .reader ≡ begin image target)
@@ -23,13 +26,18 @@ start-unique image target a b p q =
 
 module _ (r : Reader) where
   pub rewind-unique : (a b : Reader) → a ≡ rewound r → b ≡ rewound r → a ≡ b
-  rewind-unique a b p q = p ∙ sym q
+  rewind-unique = one-answer
 
   pub take-unique : (l m : Line) (a b : Reader) → (l ≡ lineHere r) × (a ≡ after r) → (m ≡ lineHere r) × (b ≡ after r) → (l ≡ m) × (a ≡ b)
   take-unique l m a b p q = (p .0 ∙ sym (q .0), p .1 ∙ sym (q .1))
 
   pub look-unique : (l m : Line) → l ≡ lineHere r → m ≡ lineHere r → l ≡ m
-  look-unique l m p q = p ∙ sym q
+  look-unique = one-answer
 
   pub count-unique : (m n : ℕ) → m ≡ countHere r → n ≡ countHere r → m ≡ n
-  count-unique m n p q = p ∙ sym q
+  count-unique = one-answer
+
+  pub line-unique : (out : List ℕ) (a b : LineWritten) (d e : List ℕ) → (ofLineWritten a ≡ writesHere r out) × (d ≡ leftHere r out)
+      → (ofLineWritten b ≡ writesHere r out) × (e ≡ leftHere r out) → (a ≡ b) × (d ≡ e)
+  line-unique out a b d e p q =
+      (write-line-unique (r .target .«has_16_bit_lds_sts») (now (r .image)) (r .at) (r .tail) out a b (p .0) (q .0), p .1 ∙ sym (q .1))

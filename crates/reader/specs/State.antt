@@ -6,7 +6,9 @@ use denote.Ref.{RefT, now}
 use Rattle.avr.specs.declared.Line.{Line}
 use Rattle.avr.specs.declared.Place.{Place}
 use Rattle.avr.specs.declared.Target.{Target}
+use Rattle.manual.specs.Answers.{Answer}
 use Rattle.manual.specs.Lines.{lineAt, placeAfter, countBefore}
+use Rattle.manual.specs.Lists.{writesLine, lineLeft}
 use Rattle.reader.specs.declared.Reader.{Reader}
 
 -- at the start of an image
@@ -29,6 +31,13 @@ after r =
 -- the lines so far
 abbrev pub countHere : Reader → ℕ
 countHere r = countBefore (r .target .«has_16_bit_lds_sts») (now (r .image)) (r .at)
+
+-- what writing the listing line here answers, and the buffer afterwards
+abbrev pub writesHere : Reader → List ℕ → Answer (List ℕ)
+writesHere r buffer = writesLine (r .target .«has_16_bit_lds_sts») (now (r .image)) (r .at) (r .tail) buffer
+
+abbrev pub leftHere : Reader → List ℕ → List ℕ
+leftHere r buffer = lineLeft (r .target .«has_16_bit_lds_sts») (now (r .image)) (r .at) (r .tail) buffer
 
 -- the state after n takes
 abbrev pub afterTakes : ℕ → Reader → Reader

@@ -1,12 +1,13 @@
 // A reader holds the lent image, the position, whether the tail has begun, and the target. Its functions are thin: each takes the struct
-// apart and calls a function of `walk` on the slice and the numbers. Callers with a slice at hand call those.
+// apart and calls a function of `walk` or `listing` on the slice and the numbers. Callers with a slice at hand call those.
 use avr::Begun;
 use avr::Line;
+use avr::LineWritten;
 use avr::Target;
 ghost use mathlib.Core.Path.{_≡_};
-ghost use Rattle.manual.specs.Answers.{ofBegun};
+ghost use Rattle.manual.specs.Answers.{ofBegun, ofLineWritten};
 ghost use Rattle.manual.specs.Lines.{begins};
-ghost use Rattle.reader.specs.State.{begin, rewound, lineHere, after, countHere};
+ghost use Rattle.reader.specs.State.{begin, rewound, lineHere, after, countHere, writesHere, leftHere};
 
 pub struct Reader<'a> {
     image: &'a [u8],
@@ -69,4 +70,11 @@ pub fn count<'s, 'a>(r: &'s Reader<'a>) -> usize
     ensures { λ n. ⌜ n ≡ countHere (now (r .entry)) ⌝ }
 {
     walk::count_before(r.image, r.target, r.at)
+}
+
+// The listing line that a take would give, without its LF, into a lent buffer. It moves nothing; at the end it writes nothing.
+pub fn write_line<'a, 'b>(r: Reader<'a>, out: &'b mut [u8]) -> LineWritten
+    ensures { λ x. ⌜ (ofLineWritten x ≡ writesHere (r .entry) (now (out .entry))) × (now (out .exit) ≡ leftHere (r .entry) (now (out .entry))) ⌝ }
+{
+    listing::write_line(r.image, r.at, r.tail, r.target, out)
 }

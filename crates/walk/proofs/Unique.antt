@@ -3,6 +3,7 @@ use mathlib.Core.Path.{_≡_, refl, sym, _∙_}
 use mathlib.Core.Bool.{Bool}
 use mathlib.Core.List.{List}
 use Prim.Native.Nat.{ℕ}
+use Rattle.avr.proofs.Unique.{one-answer}
 use Rattle.avr.specs.declared.Begun.{Begun}
 use Rattle.avr.specs.declared.Begun.the-variants as begun
 use Rattle.avr.specs.declared.Line.{Line}
@@ -22,10 +23,10 @@ module _ (image : List ℕ) where
 
   module _ (flag : Bool) (at : ℕ) (tail : Bool) where
     pub line-at-unique : (a b : Line) → a ≡ lineAt flag image at tail → b ≡ lineAt flag image at tail → a ≡ b
-    line-at-unique a b p q = p ∙ sym q
+    line-at-unique = one-answer
 
     pub step-unique : (a b : Place) → a ≡ placeAfter flag image at tail → b ≡ placeAfter flag image at tail → a ≡ b
-    step-unique a b p q = p ∙ sym q
+    step-unique = one-answer
 
     pub count-before-unique : (a b : ℕ) → a ≡ countBefore flag image at → b ≡ countBefore flag image at → a ≡ b
-    count-before-unique a b p q = p ∙ sym q
+    count-before-unique = one-answer
