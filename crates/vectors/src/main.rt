@@ -9,6 +9,13 @@ fn print(s: &[u8]) {
     io::write_all(STDOUT_FILENO, s);
 }
 
+// The first n bytes.
+fn print_first_of(s: &[u8], n: usize) {
+    if n <= s.len() {
+        print(&s[..n]);
+    }
+}
+
 // A word in four digits, and a blank.
 fn print_word(w: u16) {
     let mut digits = [0u8; 5];
@@ -40,9 +47,7 @@ fn print_answer(bytes: &[u8], target: Target) {
             let mut line = [0u8; 21];
             let written = text::write_text(x, target, &mut line);
             if let Written::Done(n) = written {
-                if n <= 21 {
-                    print(&line[..n]);
-                }
+                print_first_of(&line, n);
             }
             print(b"\n");
         }
@@ -88,8 +93,10 @@ fn print_target(target: Target) {
     print_answer(&one[..0], target);
     print(b"1 byte: ");
     print_answer(&one, target);
-    for w in 0u16..=65535 {
-        print_first(w, target);
+    let mut w: u32 = 0;
+    while w < 65536 {
+        print_first(w as u16, target);
+        w += 1;
     }
 }
 
