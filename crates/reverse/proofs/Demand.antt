@@ -1,16 +1,16 @@
 -- Demand 3: what is listed is the reverse reading of the line.
 use mathlib.Core.Path.{_≡_, refl, sym, ap, ap₂, _∙_, subst}
-use mathlib.Core.Logic.{_⊎_, inl, inr, ⊎-elim}
+use mathlib.Core.Logic.{inl, inr, ⊎-elim}
 use mathlib.Core.Bool.{Bool, true, false}
 use mathlib.Core.List.{List, [], _∷_}
-use Prim.Native.Nat.{ℕ, _+_, _*_, _<_}
+use Prim.Native.Nat.{ℕ}
 use native.Mathlib.Omega.{arith}
 use lib.ListN.{length}
 use Rattle.avr.specs.Codes.{codeOf}
 use Rattle.avr.specs.declared.Instruction.{Instruction}
 use Rattle.manual.specs.Choice.{pick}
 use Rattle.manual.specs.Answers.{Answer, gives, refuses}
-use Rattle.manual.specs.Decode.{wordAt, decodes}
+use Rattle.manual.specs.Decode.{decodes}
 use Rattle.manual.specs.Encode.{encodes}
 use Rattle.manual.specs.Text.{textOf}
 use Rattle.manual.specs.Reverse.{Prints, Before, shorter, lower, Reverse}
