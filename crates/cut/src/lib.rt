@@ -1,8 +1,10 @@
-// Parts of a line, and the number that its digits make.
+// Parts of a line.
 ghost use mathlib.Core.Path.{_≡_};
-ghost use Prim.Native.Nat.{_<_, _≤_};
+ghost use Prim.Native.Nat.{_≤_};
 ghost use lib.ListN.{length, drop, getD};
-ghost use Rattle.cut.specs.Cut.{upTo, past, digitOf, valueFrom, same};
+ghost use Rattle.cut.specs.Cut.{upTo, past, same};
+
+pub mod helper;
 
 fn find(s: &[u8], c: u8) -> usize
     ensures { λ r. ⌜ (r ≡ length (upTo c (now (s .entry)))) × (r ≤ length (now (s .entry))) ⌝ }
@@ -50,30 +52,6 @@ pub fn tail<'a>(s: &'a [u8]) -> &'a [u8]
     ensures { λ r. ⌜ now r ≡ drop 1 (now (s .entry)) ⌝ }
 {
     if 0 < s.len() { &s[1..] } else { &s[0..] }
-}
-
-fn digit(c: u8) -> u32
-    ensures { λ r. ⌜ (r ≡ digitOf c) × (r < 256) ⌝ }
-{
-    if c < 65 {
-        if c < 48 { 0 } else { (c - 48) as u32 }
-    } else {
-        (c - 55) as u32
-    }
-}
-
-// The number that digits make in a base, in its lower 24 bits; of bytes that are no digits, some number.
-pub fn value(s: &[u8], base: u32) -> u32
-    requires { ⌜ base ≤ 16 ⌝ }
-    ensures { λ r. ⌜ (r ≡ valueFrom base 0 (now (s .entry))) × (r < 16777216) ⌝ }
-{
-    let mut acc: u32 = 0;
-    let mut i = 0;
-    while i < s.len() {
-        acc = (acc * base + digit(s[i])) % 16777216;
-        i += 1;
-    }
-    acc
 }
 
 pub fn equal(a: &[u8], b: &[u8]) -> bool

@@ -1,33 +1,31 @@
 -- The text of a record that a row makes, read, is the record.
 use mathlib.Core.Path.{_≡_, refl, sym, ap, ap₂, _∙_}
 use mathlib.Core.Bool.{Bool, true, false, not}
-use mathlib.Core.List.{List, [], _∷_, _++_}
+use mathlib.Core.List.{List, [], _∷_}
 use Prim.Native.Nat.{ℕ, _<_}
 use Prim.Native.Char.{Char, code}
 use lib.Dec.{eqb}
 use Rattle.avr.specs.Codes.{sregOf, opcodeOf}
 use Rattle.avr.specs.declared.SREGBit.{SREGBit}
 use Rattle.avr.specs.declared.SREGBit.the-variants.{C, Z, N, «V», S, H, T, I}
-use Rattle.avr.specs.declared.Opcode.{Opcode}
 use Rattle.avr.specs.declared.Opcode.the-variants.{NOP}
-use Rattle.avr.specs.declared.Operand.{Operand}
-use Rattle.avr.specs.declared.Instruction.{Instruction}
-use Rattle.manual.specs.Choice.{pick, both, either}
+use Rattle.manual.specs.Choice.{both, either}
 use Rattle.manual.specs.Pattern.{symbols, select, width, field}
 use Rattle.manual.specs.Rows as arg
 use Rattle.manual.specs.Rows.{Arg, Row, rows}
 use Rattle.manual.specs.Operands.{mapArg, argument}
 use Rattle.manual.specs.Decode.{nameOf, rowInstruction}
-use Rattle.manual.specs.Text.{names, mnemonic, operandText, isNothing, led, textOf}
+use Rattle.manual.specs.Text.{names, mnemonic, isNothing, textOf}
 use Rattle.rows.specs.Columns.{rowAt}
 use Rattle.rows.proofs.Table.{agree, constant}
 use Rattle.text.specs.Names.{nameList}
 use Rattle.cut.proofs.Parts.{Lacks}
+use Rattle.encode.proofs.Truth.{both-true, not-true, either-use}
 use Rattle.read.specs.Operands.{operandAs}
 use Rattle.read.specs.Line.{numberAs, opcodeFrom, immediateFirst, immediateSecond, lineAs}
 use Rattle.read.proofs.Operands.{operand-back}
 use Rattle.read.proofs.Spelled.{spells, spelled}
-use Rattle.read.proofs.Parts.{Parts, parts}
+use Rattle.read.proofs.Parts.{parts}
 
 -- ---- tests of a row, with each SREG bit
 
@@ -101,17 +99,9 @@ module _ (i : ℕ) (h : i < 103) where
 
 -- ---- what the tests say
 
-split : (a b : Bool) → both a b ≡ true → (a ≡ true) × (b ≡ true)
-split true b e = (refl, e)
-split false b e = (e, cc)
-
 lacks : (c : ℕ) (l : List ℕ) → lacking c l ≡ true → Lacks c l
 lacks c [] t = tt
-lacks c (x ∷ xs) t = let p = split (not (eqb x c)) (lacking c xs) t in (negated (eqb x c) (p .0), lacks c xs (p .1))
-  where
-    negated : (b : Bool) → not b ≡ true → b ≡ false
-    negated true e = sym e
-    negated false e = refl
+lacks c (x ∷ xs) t = let p = both-true (not (eqb x c)) (lacking c xs) t in (not-true (eqb x c) (p .0), lacks c xs (p .1))
 
 empty-is : (a : Arg Char) (cs : List ℕ) (w e : ℕ) → isNothing (argument a cs w e) ≡ empty a
 empty-is arg.nothing cs w e = refl
@@ -129,10 +119,6 @@ empty-is (arg.abs7 x) cs w e = refl
 empty-is arg.word cs w e = refl
 empty-is (arg.far x) cs w e = refl
 
-implied : (a b : Bool) → either (not a) b ≡ true → a ≡ true → b ≡ true
-implied true b t e = t
-implied false b t e = cc
-
 module _ (i w e : ℕ) (h : i < 103) (small : e < 65536) where
   r : Row
   r = rowAt i
@@ -149,10 +135,10 @@ module _ (i w e : ℕ) (h : i < 103) (small : e < 65536) where
       let a = argument (r .first) cs w e in
       let b = argument (r .second) cs w e in
       let n = numberFor s r in
-      let t = split (firstTest s r) (both (secondTest s r) (blankTest s r)) (row-tests i h s) in
-      let u = split (secondTest s r) (blankTest s r) (t .1) in
+      let t = both-true (firstTest s r) (both (secondTest s r) (blankTest s r)) (row-tests i h s) in
+      let u = both-true (secondTest s r) (blankTest s r) (t .1) in
       let m = mnemonic (nameOf (r .name) s) in
-      let o : isNothing a ≡ true → isNothing b ≡ true = λ z. empty-is (r .second) cs w e ∙ implied (empty (r .first)) (empty (r .second)) (order-test i h) (sym (empty-is (r .first) cs w e) ∙ z) in
+      let o : isNothing a ≡ true → isNothing b ≡ true = λ z. empty-is (r .second) cs w e ∙ either-use (empty (r .first)) (empty (r .second)) (sym (empty-is (r .first) cs w e) ∙ z) (order-test i h) in
       let p = parts m a b (lacks 32 m (u .1)) o in
       let x = ap (λ l. opcodeFrom (numberAs l)) (p .name) ∙ opcode-back i h s in
       let y = ap₂ (λ l k. operandAs (immediateFirst (numberAs l)) k) (p .name) (p .first) ∙ operand-back (immediateFirst n) a (spelled (immediateFirst n) cs w e small (r .first) (t .0)) in

@@ -1,30 +1,28 @@
 -- An operand's text, read, is the operand, and has no comma in it.
-use mathlib.Core.Path.{_≡_, refl, sym, ap, _∙_}
+use mathlib.Core.Path.{_≡_, refl, ap}
 use mathlib.Core.Bool.{Bool, true, false}
 use mathlib.Core.List.{List, [], _∷_, _++_}
 use Prim.Native.Nat.{ℕ, zero, suc, _+_, _*_, _/_, _%_, _≤_, _<_}
 use native.Mathlib.Nat.{mod-eq-of-lt}
 use native.Mathlib.Omega.{arith}
-use lib.Dec.{eqb, ltb, lit<}
+use lib.Dec.{ltb}
 use lib.IntN.{ℤ, pos, negsuc, negℤ}
-use lib.Signed.{mag}
-use lib.ListN.{length, drop, getD, length-append}
+use lib.ListN.{length, drop, length-append}
 use borrow.Author.Tests.{lt-ltb, le-ltb}
 use Rattle.avr.specs.declared.IndexRegister.{IndexRegister}
 use Rattle.avr.specs.declared.IndexRegister.the-variants.{X, Y, Z}
-use Rattle.avr.specs.declared.IndexRegisterModifier.{IndexRegisterModifier}
 use Rattle.avr.specs.declared.IndexRegisterModifier.the-variants as modifier
 use Rattle.avr.specs.declared.Register.{Register}
 use Rattle.avr.specs.declared.Register.the-variants as register
 use Rattle.avr.specs.declared.Operand.{Operand}
 use Rattle.avr.specs.declared.Operand.the-variants as operand
 use Rattle.manual.specs.Choice.{pick}
-use Rattle.manual.specs.Text.{chars, digit, digits, decimal, registerText, relativeText, immediateText, addressText, operandText}
-use Rattle.cut.specs.Cut.{upTo, past, valueFrom}
+use Rattle.manual.specs.Text.{digit, digits, decimal, registerText, relativeText, immediateText, addressText, operandText}
+use Rattle.cut.specs.Cut.{valueFrom}
 use Rattle.cut.proofs.Parts.{Lacks, up-seam, past-seam, up-all, lacks-both}
 use Rattle.cut.proofs.Digits.{digits-back, padded-back, digits-lack, padded-lack, decimal-lacks}
 use Rattle.text.proofs.Below.{below}
-use Rattle.read.specs.Operands.{indexAs, changeAs, registerAs, distanceAs, operandAs}
+use Rattle.read.specs.Operands.{changeAs, registerAs, distanceAs, operandAs}
 
 -- the operands that are read back, where a number behind `$` is said to be an immediate or not
 abbrev pub Spelled : Bool → Operand → Type 0

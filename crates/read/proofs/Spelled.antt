@@ -1,38 +1,25 @@
 -- Every operand that a row makes is one that is read back: by a test of the rows, which computes.
-use mathlib.Core.Path.{_≡_, refl, sym, ap, _∙_}
+use mathlib.Core.Path.{_≡_}
 use mathlib.Core.Bool.{Bool, true, false, not}
-use mathlib.Core.List.{List, [], _∷_}
-use Prim.Native.Nat.{ℕ, zero, suc, _+_, _-_, _*_, _/_, _%_, _^_, _≤_, _<_}
+use mathlib.Core.List.{List}
+use Prim.Native.Nat.{ℕ, zero, suc, _+_, _-_, _^_, _≤_, _<_}
 use Prim.Native.Char.{Char, code}
-use native.Mathlib.Nat.{pow-suc, lt-of-lt-of-le, pow-le-pow-right}
+use native.Mathlib.Nat.{lt-of-lt-of-le, pow-le-pow-right}
 use native.Mathlib.Omega.{arith}
-use lib.Dec.{eqb, ltb, leb, lit<}
-use lib.IntN.{ℤ, pos, negsuc, negℤ}
+use lib.Dec.{ltb, leb, lit<}
+use lib.IntN.{pos, negℤ}
 use borrow.Author.Tests.{leb-true}
-use Rattle.avr.specs.declared.SREGBit.{SREGBit}
-use Rattle.avr.specs.declared.SREGBit.the-variants.{C, Z, N, «V», S, H, T, I}
 use Rattle.avr.specs.declared.IndexRegisterModifier.{IndexRegisterModifier}
 use Rattle.avr.specs.declared.IndexRegisterModifier.the-variants as modifier
 use Rattle.avr.specs.declared.Operand.the-variants as operand
 use Rattle.manual.specs.Choice.{pick, both}
-use Rattle.manual.specs.Pattern.{symbols, select, bits, width, onto}
+use Rattle.manual.specs.Pattern.{select, bits, width}
 use Rattle.manual.specs.Rows as arg
-use Rattle.manual.specs.Rows.{Arg, Row, rows}
-use Rattle.manual.specs.Operands.{nearOf, lowOf, farOf, mapArg, argument}
+use Rattle.manual.specs.Rows.{Arg}
+use Rattle.manual.specs.Operands.{nearOf, mapArg, argument}
+use Rattle.encode.proofs.Truth.{both-true, not-true}
+use Rattle.encode.proofs.SregBack.{bits-lt}
 use Rattle.read.proofs.Operands.{Spelled}
-
--- ---- a letter's number fits its bits
-
-onto-lt : (s : Bool) (b n k : ℕ) → b < 2 → n < 2 ^ k → onto s b n < 2 ^ (pick s 1 0 + k)
-onto-lt true b n k hb h = rw (pow-one-add k) (omega arith)
-  where
-    pow-one-add : (k : ℕ) → 2 ^ (1 + k) ≡ 2 ^ k * 2
-    pow-one-add k = let e : 1 + k ≡ suc k = omega arith in rw e (pow-suc 2 k)
-onto-lt false b n k hb h = let e : 0 + k ≡ k = omega arith in rw e h
-
-pub bits-lt : (ss : List Bool) (w : ℕ) → bits ss w < 2 ^ width ss
-bits-lt [] w = lit< tt
-bits-lt (s ∷ ss) w = onto-lt s (w % 2) (bits ss (w / 2)) (width ss) (omega arith) (bits-lt ss (w / 2))
 
 -- a number of at most n bits
 short : (k n b : ℕ) → b < 2 ^ k → leb k n ≡ true → b < 2 ^ n
@@ -74,15 +61,6 @@ near-spelled m k v h t = go (ltb v (2 ^ (k - 1)))
     go true = let l = short k 12 v h t in omega (arith, l)
     go false = let l : 2 ^ k ≤ 2 ^ 12 = pow-le-pow-right (lit< tt) (leb-true k 12 t) in neg-spelled m (2 ^ k - 1 - v) (omega (arith, l))
 
--- m is false, and the rest holds
-negative : (m t : Bool) → both (not m) t ≡ true → (m ≡ false) × (t ≡ true)
-negative true t h = let e : false ≡ true = h in (cc, cc)
-negative false t h = (refl, h)
-
-positive : (m t : Bool) → both m t ≡ true → (m ≡ true) × (t ≡ true)
-positive true t h = (refl, h)
-positive false t h = let e : false ≡ true = h in (cc, cc)
-
 module _ (m : Bool) (cs : List ℕ) (w e : ℕ) (small : e < 65536) where
   lt : (x : Char) → bits (select (code x) cs) w < 2 ^ width (select (code x) cs)
   lt x = bits-lt (select (code x) cs) w
@@ -99,20 +77,16 @@ module _ (m : Bool) (cs : List ℕ) (w e : ℕ) (small : e < 65536) where
   spelled (arg.index i modifier.PreDecrement) t = tt
   spelled (arg.index i (modifier.Displacement q)) t = absurd (let z : _≡_ {A = ℕ} 0 1 = cc in let y : ⊥ = omega arith in y)
   spelled (arg.disp i x) t = let l = short _ 8 _ (lt x) t in omega (arith, l)
-  spelled (arg.imm x) t = let p = positive m _ t in (p .0, short _ 8 _ (lt x) (p .1))
+  spelled (arg.imm x) t = let p = both-true m _ t in (p .0, short _ 8 _ (lt x) (p .1))
   spelled (arg.bit x) t = let l = short _ 3 _ (lt x) t in omega (arith, l)
   spelled (arg.rel x) t = near-spelled m _ _ (lt x) t
-  spelled (arg.abs x) t = let p = negative m _ t in (p .0, short _ 24 _ (lt x) (p .1))
+  spelled (arg.abs x) t = let p = both-true (not m) _ t in (not-true m (p .0), short _ 24 _ (lt x) (p .1))
   spelled (arg.abs7 x) t =
-      let p = negative m _ t in
+      let p = both-true (not m) _ t in
       let l = short _ 7 _ (lt x) (p .1) in
-      (p .0, omega (arith, l))
-  spelled arg.word t = (no m t, omega arith)
-    where
-      no : (m : Bool) → not m ≡ true → m ≡ false
-      no true h = let e : false ≡ true = h in cc
-      no false h = refl
+      (not-true m (p .0), omega (arith, l))
+  spelled arg.word t = (not-true m t, omega arith)
   spelled (arg.far x) t =
-      let p = negative m _ t in
+      let p = both-true (not m) _ t in
       let l = short _ 6 _ (lt x) (p .1) in
-      (p .0, omega (arith, l))
+      (not-true m (p .0), omega (arith, l))

@@ -1,13 +1,13 @@
 -- A record read off its line: the opcode by the mnemonic's number in the writer's table, and the operands by their texts.
 use Prim.Native.Nat.{ℕ, suc, _+_, _-_, _/_, _%_}
-use mathlib.Core.Bool.{Bool, true, false, not}
+use mathlib.Core.Bool.{Bool, false, not}
 use mathlib.Core.List.{List, [], _∷_}
 use lib.Dec.{eqb, ltb}
 use lib.ListN.{drop}
 use Rattle.avr.specs.Codes.{sregOf, opcodeOf}
 use Rattle.avr.specs.declared.Opcode.{Opcode}
 use Rattle.avr.specs.declared.Instruction.{Instruction}
-use Rattle.manual.specs.Choice.{pick, either}
+use Rattle.manual.specs.Choice.{pick}
 use Rattle.cut.specs.Cut.{upTo, past, same}
 use Rattle.text.specs.Names.{nameList}
 use Rattle.read.specs.Operands.{operandAs}

@@ -1,6 +1,5 @@
 -- An operand read off its text. Of a text that no operand has, it is some operand: whoever reads compares what that prints as.
 use Prim.Native.Nat.{ℕ, _/_, _%_}
-use Prim.Native.Char.{code}
 use mathlib.Core.Bool.{Bool}
 use mathlib.Core.List.{List}
 use lib.Dec.{eqb, ltb}

@@ -11,6 +11,7 @@ use avr::Instruction;
 use avr::Opcode;
 use avr::Operand;
 use avr::Register;
+use cut::helper::value;
 use text::names::LENGTHS;
 use text::names::NAMES;
 
@@ -35,7 +36,7 @@ fn change_as(s: &[u8]) -> IndexRegisterModifier
     if s.len() < 2 {
         return IndexRegisterModifier::PostIncrement;
     }
-    let n = cut::value(cut::tail(s), 10);
+    let n = value(cut::tail(s), 10);
     IndexRegisterModifier::Displacement((n % 256) as u8)
 }
 
@@ -44,19 +45,19 @@ fn register_as(s: &[u8]) -> Register
 {
     let high = cut::before(s, b':');
     if high.len() < s.len() {
-        let n = cut::value(cut::tail(cut::behind(s, b':')), 10);
+        let n = value(cut::tail(cut::behind(s, b':')), 10);
         return Register::RegisterPair {
             low: (n / 2 % 256) as u8,
         };
     }
-    let n = cut::value(s, 10);
+    let n = value(s, 10);
     Register::Register((n % 256) as u8)
 }
 
 fn distance_as(s: &[u8]) -> i16
     ensures { λ r. ⌜ r ≡ distanceAs (now (s .entry)) ⌝ }
 {
-    let n = (cut::value(cut::tail(s), 10) % 32768) as i16;
+    let n = (value(cut::tail(s), 10) % 32768) as i16;
     if cut::head(s) == b'-' {
         return -n;
     }
@@ -73,7 +74,7 @@ pub fn operand_as(s: &[u8], immediate: bool) -> Operand
         return Operand::Register(register_as(t));
     }
     if c == b'$' {
-        let n = cut::value(t, 16);
+        let n = value(t, 16);
         if immediate {
             return Operand::ImmediateU8((n % 256) as u8);
         }
@@ -90,7 +91,7 @@ pub fn operand_as(s: &[u8], immediate: bool) -> Operand
         return Operand::Nothing;
     }
     if c < 65 {
-        return Operand::BitIndex((cut::value(s, 10) % 256) as u8);
+        return Operand::BitIndex((value(s, 10) % 256) as u8);
     }
     Operand::Register(Register::IndexRegister(index_as(c), change_as(t)))
 }

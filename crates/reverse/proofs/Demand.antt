@@ -1,16 +1,16 @@
 -- Demand 3: what is listed is the reverse reading of the line.
-use mathlib.Core.Path.{_≡_, refl, sym, ap, _∙_, subst}
-use mathlib.Core.Logic.{_⊎_, inl, inr, ⊎-elim}
+use mathlib.Core.Path.{_≡_, refl, sym, ap, ap₂, _∙_, subst}
+use mathlib.Core.Logic.{inl, inr, ⊎-elim}
 use mathlib.Core.Bool.{Bool, true, false}
 use mathlib.Core.List.{List, [], _∷_}
-use Prim.Native.Nat.{ℕ, _+_, _*_, _<_}
+use Prim.Native.Nat.{ℕ}
 use native.Mathlib.Omega.{arith}
 use lib.ListN.{length}
 use Rattle.avr.specs.Codes.{codeOf}
 use Rattle.avr.specs.declared.Instruction.{Instruction}
 use Rattle.manual.specs.Choice.{pick}
 use Rattle.manual.specs.Answers.{Answer, gives, refuses}
-use Rattle.manual.specs.Decode.{wordAt, decodes}
+use Rattle.manual.specs.Decode.{decodes}
 use Rattle.manual.specs.Encode.{encodes}
 use Rattle.manual.specs.Text.{textOf}
 use Rattle.manual.specs.Reverse.{Prints, Before, shorter, lower, Reverse}
@@ -20,7 +20,7 @@ use Rattle.encode.specs.Demand.{Whole, Right, xRow}
 use Rattle.encode.proofs.Truth.{clash}
 use Rattle.encode.proofs.Demand.{right}
 use Rattle.read.specs.Line.{lineAs}
-use Rattle.reverse.specs.Listing.{given, xSet, listing, printsAs, firstPasses, kept}
+use Rattle.reverse.specs.Listing.{given, xSet, listing, printsAs, firstPasses, kept, withLength}
 use Rattle.reverse.proofs.Wholes.{gives-whole, one-string, two-strings, length-two, Clear, gives-clear, set-whole}
 use Rattle.reverse.proofs.Lists.{lists-none, lists-one, lists-two}
 use Rattle.reverse.proofs.Line.{same-text, prints-text, prints-whole, whole-length, whole-prints}
@@ -120,3 +120,23 @@ module _ (flag : Bool) (line : List ℕ) where
       go false e =
           lists-none flag line
           (λ s p. clash (sym e ∙ ap (λ (l : List ℕ). same l line) (prints-text flag line s p 2) ∙ same-refl line))
+
+  -- the same for a list that is known to be theirs, and a test that is known to be the first one's
+  pub answered : (l : List (List ℕ)) (b : Bool) → l ≡ listing (xRow (lineCode line 2)) (encodes flag (lineAs line 2)) (encodes flag (lineAs line 4))
+      → b ≡ firstPasses (λ s. printsAs (decodes flag s) line) l → Reverse flag line (pick b l [])
+  answered l b e f =
+      subst (λ (t : Bool). Reverse flag line (pick t l [])) (sym f)
+      (subst (λ (m : List (List ℕ)). Reverse flag line (kept (λ s. printsAs (decodes flag s) line) m)) (sym e) reversed)
+
+long-is : (line : List ℕ) → withLength (lineAs line 2) 4 ≡ lineAs line 4
+unfolding lineAs
+long-is line = refl
+
+-- the list by the record that was read, and by the same of four bytes
+pub candidates-are : (flag : Bool) (line : List ℕ) (x y : Instruction) (b : Bool) (s l : Answer (List ℕ))
+    → x ≡ lineAs line 2 → y ≡ withLength x 4 → b ≡ xRow (codeOf (x .opcode)) → s ≡ encodes flag x → l ≡ encodes flag y
+    → listing b s l ≡ listing (xRow (lineCode line 2)) (encodes flag (lineAs line 2)) (encodes flag (lineAs line 4))
+candidates-are flag line x y b s l p q r t u =
+    let z : y ≡ lineAs line 4 = q ∙ ap (λ v. withLength v 4) p ∙ long-is line in
+    ap (λ a. listing a s l) (r ∙ ap (λ (v : Instruction). xRow (codeOf (v .opcode))) p)
+    ∙ ap₂ (listing (xRow (lineCode line 2))) (t ∙ ap (encodes flag) p) (u ∙ ap (encodes flag) z)

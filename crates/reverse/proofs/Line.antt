@@ -1,18 +1,18 @@
 -- What prints as a line decodes to the record that the line is read as, of one of the two lengths.
 use mathlib.Core.Path.{_≡_, refl, sym, ap, ap₂, _∙_, subst}
-use mathlib.Core.Logic.{_⊎_, inl, inr}
+use mathlib.Core.Logic.{_⊎_}
 use mathlib.Core.Bool.{Bool}
 use mathlib.Core.List.{List}
 use Prim.Native.Nat.{ℕ}
 use lib.ListN.{length}
 use Rattle.avr.specs.declared.Instruction.{Instruction}
 use Rattle.manual.specs.Answers.{gives}
-use Rattle.manual.specs.Decode.{wordAt, rowInstruction, decodes}
+use Rattle.manual.specs.Decode.{wordAt, rowInstruction}
 use Rattle.manual.specs.Text.{textOf}
 use Rattle.manual.specs.Reverse.{Prints}
 use Rattle.rows.specs.Columns.{rowAt}
 use Rattle.encode.specs.Demand.{Whole}
-use Rattle.encode.proofs.Found.{Found, found}
+use Rattle.encode.proofs.Found.{found}
 use Rattle.read.specs.Line.{lineAs}
 use Rattle.read.proofs.Line.{row-back}
 

@@ -1,10 +1,9 @@
 -- The x of a bld or bst is not looked at: set, it gives the same record.
-use mathlib.Core.Path.{_≡_, refl, sym, ap, ap₂, _∙_, subst}
+use mathlib.Core.Path.{_≡_, refl, sym, ap, _∙_, subst}
 use mathlib.Core.Logic.{_⊎_, inl, inr, ⊎-elim}
 use mathlib.Core.Bool.{Bool, true, false, not}
 use mathlib.Core.List.{List, [], _∷_, map}
-use Prim.Native.Nat.{ℕ, _+_, _*_, _/_, _%_, _<_}
-use Prim.Native.Char.{code}
+use Prim.Native.Nat.{ℕ, _+_, _/_, _%_, _<_}
 use Prim.Native.String.{String}
 use native.Mathlib.Omega.{arith}
 use lib.Dec.{T, eqb}
@@ -14,8 +13,8 @@ use Rattle.avr.specs.declared.Opcode.{Opcode}
 use Rattle.avr.specs.declared.Opcode.the-variants as op
 use Rattle.avr.specs.declared.Register.the-variants as register
 use Rattle.avr.specs.declared.Operand.the-variants as operand
-use Rattle.manual.specs.Choice.{pick, both, either}
-use Rattle.manual.specs.Pattern.{symbols, allows, fits, select, bits, onto, field}
+use Rattle.manual.specs.Choice.{both, either}
+use Rattle.manual.specs.Pattern.{symbols, fits, field}
 use Rattle.manual.specs.Rows.{Row, any, plain, reg, bit, row, rows, noRow, accepts, place}
 use Rattle.manual.specs.Decode.{rowInstruction}
 use Rattle.rows.specs.Columns.{codeOfName, rowAt}

@@ -4,7 +4,7 @@ use mathlib.Core.Path.{_≡_, refl, sym, ap, ap₂, _∙_, subst}
 use mathlib.Core.Logic.{_⊎_, inl, inr, ⊎-elim}
 use mathlib.Core.Bool.{Bool, true, false}
 use mathlib.Core.List.{List, [], _∷_, List·Memᴰ, List·Memᴰ·head, List·Memᴰ·tail, List·Memᴰ·not-nil, List·Memᴰ·cases-cons}
-use Prim.Native.Nat.{ℕ, _≤_, _<_}
+use Prim.Native.Nat.{ℕ, _≤_}
 use native.Mathlib.Omega.{arith}
 use lib.ListN.{length}
 use Rattle.avr.specs.Codes.{codeOf}
@@ -14,9 +14,9 @@ use Rattle.avr.specs.declared.Strings.{Strings}
 use Rattle.avr.specs.declared.Strings.the-variants as strings
 use Rattle.manual.specs.Choice.{pick}
 use Rattle.manual.specs.Answers.{Answer, gives, refuses, stringOf, stringsOf}
-use Rattle.manual.specs.Decode.{wordAt, decodes}
+use Rattle.manual.specs.Decode.{decodes}
 use Rattle.manual.specs.Encode.{encodes}
-use Rattle.manual.specs.Reverse.{Prints, Before, shorter, lower, Rising, none, next, Reverse}
+use Rattle.manual.specs.Reverse.{Before, shorter, lower, Rising, next, Reverse}
 use Rattle.encode.specs.Demand.{xRow}
 use Rattle.read.specs.Line.{lineAs}
 use Rattle.reverse.specs.Listing.{listing, printsAs, firstPasses}

@@ -1,19 +1,17 @@
 -- The strings that decode, whole, to a record: the one that encoding gives and, of a bld or bst, the same with x set.
-use mathlib.Core.Path.{_≡_, refl, sym, ap, ap₂, _∙_, subst}
+use mathlib.Core.Path.{_≡_, refl, sym, ap, _∙_, subst}
 use mathlib.Core.Logic.{_⊎_, inl, inr}
 use mathlib.Core.Bool.{Bool, true, false}
 use mathlib.Core.List.{List, [], _∷_, map}
 use Prim.Native.Nat.{ℕ, zero, suc, _+_, _-_, _*_, _/_, _%_, _<_}
 use native.Mathlib.Omega.{arith}
-use lib.Dec.{eqb, lit<}
+use lib.Dec.{lit<}
 use lib.ListN.{length, getD, length-map}
 use Rattle.avr.specs.Codes.{codeOf}
 use Rattle.avr.specs.declared.SREGBit.{SREGBit}
 use Rattle.avr.specs.declared.SREGBit.the-variants.{C}
 use Rattle.avr.specs.declared.Instruction.{Instruction}
-use Rattle.manual.specs.Choice.{pick}
 use Rattle.manual.specs.Answers.{gives}
-use Rattle.manual.specs.Pattern.{symbols, field}
 use Rattle.manual.specs.Rows.{Row, Name, plain, flagged, rows, noRow, accepts, place}
 use Rattle.manual.specs.Decode.{wordAt, nameOf, rowInstruction, decodes}
 use Rattle.manual.specs.Encode.{encodes}
@@ -21,13 +19,13 @@ use Rattle.rows.specs.Columns.{codeOfName, rowAt}
 use Rattle.rows.proofs.Table.{column, row-count}
 use Rattle.decode.proofs.Shapes.{bytes-are}
 use Rattle.decode.proofs.Steps.{two}
-use Rattle.encode.specs.Demand.{Bytes, Whole, Right, xRow, xClear, clearedBy, restored}
+use Rattle.encode.specs.Demand.{Bytes, Whole, Right, xRow, restored}
 use Rattle.encode.proofs.Leading.{place-leading, leading-true}
 use Rattle.encode.proofs.RowFacts as facts
 use Rattle.encode.proofs.Found.{Found, found}
 use Rattle.encode.proofs.Demand.{right, restores}
 use Rattle.reverse.specs.Listing.{xByte, xSet}
-use Rattle.reverse.proofs.SetX.{SameRow, same-row, alone}
+use Rattle.reverse.proofs.SetX.{same-row, alone}
 
 same-list : {l m : List ℕ} → gives l ≡ gives m → l ≡ m
 same-list e = cc

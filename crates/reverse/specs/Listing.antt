@@ -38,3 +38,6 @@ firstPasses p (s ∷ l) = p s
 
 abbrev pub kept : (List ℕ → Bool) → List (List ℕ) → List (List ℕ)
 kept p l = pick (firstPasses p l) l []
+
+abbrev pub withLength : Instruction → ℕ → Instruction
+withLength x l = record { opcode = x .opcode; first = x .first; second = x .second; length = l }

@@ -1,10 +1,9 @@
 -- The sign is a minus, or it is not.
-use mathlib.Core.Path.{_≡_, sym, ap, _∙_}
+use mathlib.Core.Path.{sym, ap, _∙_}
 use mathlib.Core.List.{List}
 use Prim.Native.Nat.{ℕ, _%_}
 use native.Mathlib.Omega.{arith}
 use lib.IntN.{pos, negℤ}
-use lib.ListN.{drop}
 use mir.Syntax.{w16}
 use mir.Facts.{toZ-pos}
 use borrow.Author.Needs.{needs}

@@ -1,12 +1,11 @@
 -- The part of the table that holds the name.
-use mathlib.Core.Path.{_≡_, ap, _∙_}
+use mathlib.Core.Path.{_≡_}
 use mathlib.Core.List.{List}
-use Prim.Native.Nat.{ℕ, _+_, _-_, _*_, _≤_, _<_}
+use Prim.Native.Nat.{ℕ, _≤_, _<_}
 use native.Mathlib.Omega.{arith}
-use lib.ListN.{getD, take, drop}
+use lib.ListN.{getD}
 use borrow.Author.Needs.{needs}
-use Rattle.cut.specs.Cut.{same}
-use Rattle.text.specs.Names.{nameLengths, nameAt, nameBytes}
+use Rattle.text.specs.Names.{nameLengths}
 use Rattle.text.proofs.NameTable.{name-short, length-is, name-part}
 use Rattle.read.proofs.name_is.Statement.{statement}
 use Rattle.read.proofs.name_is.Tie as tie

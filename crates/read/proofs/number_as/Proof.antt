@@ -1,9 +1,8 @@
 -- Passing a name that is not s, the place counts one more.
 use mathlib.Core.Path.{_≡_, refl, sym, _∙_}
-use mathlib.Core.List.{[]}
 use Prim.Native.Nat.{_+_, _-_, _≤_}
 use native.Mathlib.Omega.{arith}
-use lib.ListN.{length, drop}
+use lib.ListN.{drop}
 use Rattle.manual.specs.Text.{names}
 use Rattle.text.specs.Names.{nameList, nameBytes, nameLengths}
 use Rattle.read.specs.Line.{placeOf, numberAs}

@@ -1,7 +1,4 @@
 -- By what encoding gives for the length 2, and whether there is an x.
-use mathlib.Core.Path.{ap}
-use Prim.Native.Nat.{ℕ}
-use mathlib.Core.List.{_∷_, []}
 use borrow.Author.Needs.{needs}
 use Rattle.reverse.proofs.listing.listed.Statement.{statement}
 use Rattle.reverse.proofs.listing.listed.Tie as tie

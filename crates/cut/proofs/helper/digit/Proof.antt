@@ -3,8 +3,8 @@ use Prim.Native.Nat.{_<_}
 use native.Mathlib.Omega.{arith}
 use borrow.Author.Needs.{needs}
 use borrow.Author.Tests.{lt-ltb, le-ltb}
-use Rattle.cut.proofs.digit.Statement.{statement}
-use Rattle.cut.proofs.digit.Tie as tie
+use Rattle.cut.proofs.helper.digit.Statement.{statement}
+use Rattle.cut.proofs.helper.digit.Tie as tie
 
 returns : tie.Need-returns
 returns c =

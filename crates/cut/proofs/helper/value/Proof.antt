@@ -7,8 +7,8 @@ use native.Mathlib.Omega.{arith}
 use lib.ListN.{length, drop, drop-of-length-le}
 use Rattle.cut.specs.Cut.{valueFrom}
 use Rattle.cut.proofs.Parts.{value-step}
-use Rattle.cut.proofs.value.Statement.{statement}
-use Rattle.cut.proofs.value.Tie as tie
+use Rattle.cut.proofs.helper.value.Statement.{statement}
+use Rattle.cut.proofs.helper.value.Tie as tie
 
 abbrev Inv-loop : tie.InvT-loop
 Inv-loop s base acc₀ i₀ acc i = (i ≤ length s) × (acc < 16777216) × (valueFrom base 0 s ≡ valueFrom base acc (drop i s))
