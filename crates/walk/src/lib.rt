@@ -52,7 +52,7 @@ pub fn line_at(image: &[u8], at: usize, tail: bool, target: Target) -> Line
 }
 
 // How many bytes a line takes.
-pub fn line_length(l: Line) -> usize
+fn line_length(l: Line) -> usize
     ensures { λ r. ⌜ r ≡ lengthOf l ⌝ }
 {
     match l {
@@ -64,7 +64,7 @@ pub fn line_length(l: Line) -> usize
 }
 
 // Whether the tail has begun behind a line.
-pub fn tail_after(l: Line, tail: bool) -> bool
+fn tail_after(l: Line, tail: bool) -> bool
     ensures { λ r. ⌜ r ≡ tailAfter l tail ⌝ }
 {
     match l {
