@@ -1,0 +1,43 @@
+-- Two answers that a statement allows are equal, and so is what they leave in the buffer. Four statements are equations; that of
+-- avr_reverse names a list, of which there is one.
+use mathlib.Core.Path.{_≡_, sym, ap, _∙_}
+use mathlib.Core.Bool.{Bool}
+use mathlib.Core.List.{List}
+use Prim.Native.Nat.{ℕ}
+use Rattle.avr.proofs.Unique.{one-answer}
+use Rattle.manual.specs.Answers.{Answer}
+use Rattle.manual.specs.Room.{written, filled}
+use Rattle.manual.specs.Frames.{lineAnswer}
+use Rattle.manual.specs.Lists.{lists, listLeft}
+use Rattle.manual.specs.Reverse.{Reverse}
+use Rattle.reverse.proofs.Unique.{one-reading}
+use Rattle.pirukames.specs.Library.{coded, delivers, delivered, texts, recodes, strung}
+
+-- of a statement that equates the answer with x and the buffer with y
+both-unique : {A B : Type 0} {x : A} {y : B} (a b : A) (d e : B) → (a ≡ x) × (d ≡ y) → (b ≡ x) × (e ≡ y) → (a ≡ b) × (d ≡ e)
+both-unique a b d e p q = (one-answer a b (p .0) (q .0), one-answer d e (p .1) (q .1))
+
+module _ (flag : Bool) (bytes buffer : List ℕ) (a b : ℕ) (d e : List ℕ) where
+  pub avr-text-unique : (a ≡ coded (delivers (texts flag bytes) buffer)) × (d ≡ delivered (texts flag bytes) buffer)
+      → (b ≡ coded (delivers (texts flag bytes) buffer)) × (e ≡ delivered (texts flag bytes) buffer) → (a ≡ b) × (d ≡ e)
+  avr-text-unique = both-unique a b d e
+
+  pub avr-recode-unique : (a ≡ coded (delivers (recodes flag bytes) buffer)) × (d ≡ delivered (recodes flag bytes) buffer)
+      → (b ≡ coded (delivers (recodes flag bytes) buffer)) × (e ≡ delivered (recodes flag bytes) buffer) → (a ≡ b) × (d ≡ e)
+  avr-recode-unique = both-unique a b d e
+
+  pub avr-list-unique : (a ≡ coded (lists flag bytes buffer)) × (d ≡ listLeft flag bytes buffer)
+      → (b ≡ coded (lists flag bytes buffer)) × (e ≡ listLeft flag bytes buffer) → (a ≡ b) × (d ≡ e)
+  avr-list-unique = both-unique a b d e
+
+  pub avr-frame-unique : (a ≡ coded (written (lineAnswer bytes) buffer)) × (d ≡ filled (lineAnswer bytes) buffer)
+      → (b ≡ coded (written (lineAnswer bytes) buffer)) × (e ≡ filled (lineAnswer bytes) buffer) → (a ≡ b) × (d ≡ e)
+  avr-frame-unique = both-unique a b d e
+
+  pub avr-reverse-unique : (l m : List (List ℕ))
+      → Reverse flag bytes l × (a ≡ coded (written (strung l) buffer)) × (d ≡ filled (strung l) buffer)
+      → Reverse flag bytes m × (b ≡ coded (written (strung m) buffer)) × (e ≡ filled (strung m) buffer) → (a ≡ b) × (d ≡ e)
+  avr-reverse-unique l m p q =
+      let k = sym (one-reading flag bytes l m (p .0) (q .0)) in
+      both-unique a b d e (p .1, p .2)
+      (q .1 ∙ ap (λ (x : List (List ℕ)). coded (written (strung x) buffer)) k, q .2 ∙ ap (λ (x : List (List ℕ)). filled (strung x) buffer) k)
