@@ -65,99 +65,122 @@ fn tried(line: &[u8]) {
     print_both(line);
 }
 
+// Lines that end with a line feed.
+fn each(all: &[u8]) {
+    let mut i = 0;
+    while i < all.len() {
+        let line = cut::before(&all[i..], b'\n');
+        tried(line);
+        let left = all.len() - i;
+        if left <= line.len() {
+            return;
+        }
+        i = i + line.len() + 1;
+    }
+}
+
 // Those of document 01, and their like.
 pub fn cases() {
     io::write_all(1, b"cases\n");
-    tried(b"lds r16, $40");
-    tried(b"sts $40, r16");
-    tried(b"lds r15, $40");
-    tried(b"lds r16, $C0");
-    tried(b"bld r0, 0");
-    tried(b"bst r31, 7");
-    tried(b"ldd r0, y+1");
-    tried(b"ld r0, y");
-    tried(b"ld r0, -x");
-    tried(b"st z+, r31");
-    tried(b"lpm");
-    tried(b"lpm r0, z");
-    tried(b"spm z+");
-    tried(b"movw r31:r30, r31:r30");
-    tried(b"adiw r25:r24, $3F");
-    tried(b"call $7FFFFE");
-    tried(b"jmp $0");
-    tried(b"rjmp pc");
-    tried(b"brlo pc+1");
-    tried(b"sei");
-    tried(b"des $0F");
-    tried(b"in r0, $3F");
-    tried(b"nop");
+    each(
+        b"\
+lds r16, $40\n\
+sts $40, r16\n\
+lds r15, $40\n\
+lds r16, $C0\n\
+bld r0, 0\n\
+bst r31, 7\n\
+ldd r0, y+1\n\
+ld r0, y\n\
+ld r0, -x\n\
+st z+, r31\n\
+lpm\n\
+lpm r0, z\n\
+spm z+\n\
+movw r31:r30, r31:r30\n\
+adiw r25:r24, $3F\n\
+call $7FFFFE\n\
+jmp $0\n\
+rjmp pc\n\
+brlo pc+1\n\
+sei\n\
+des $0F\n\
+in r0, $3F\n\
+nop\n",
+    );
 }
 
 // Spellings that nothing prints.
 pub fn spellings() {
     io::write_all(1, b"spellings that nothing prints\n");
-    tried(b"ldi r16, $a");
-    tried(b"ldi r16, $0a");
-    tried(b"ldi r16, $00A");
-    tried(b"lds r16, $040");
-    tried(b"rjmp pc+0");
-    tried(b"rjmp pc-0");
-    tried(b"rjmp pc+01");
-    tried(b"mov r01, r2");
-    tried(b"mov r1, r2 ");
-    tried(b" mov r1, r2");
-    tried(b"mov  r1, r2");
-    tried(b"mov r1,  r2");
-    tried(b"mov r1,r2");
-    tried(b"mov r1, r2, r3");
-    tried(b"mov r1");
-    tried(b"mov");
-    tried(b"MOV r1, r2");
-    tried(b"Mov r1, r2");
-    tried(b"mov R1, r2");
-    tried(b"nop ");
-    tried(b"nop r0");
-    tried(b"bset 0");
-    tried(b"adiw r24, $3F");
-    tried(b"movw r1:r2, r1:r0");
-    tried(b"ld r0, z+0");
-    tried(b"ldd r0, z+0");
-    tried(b"ldd r0, z");
-    tried(b"bld r0, 00");
-    tried(b"");
-    tried(b" ");
-    tried(b",");
+    each(
+        b"\
+ldi r16, $a\n\
+ldi r16, $0a\n\
+ldi r16, $00A\n\
+lds r16, $040\n\
+rjmp pc+0\n\
+rjmp pc-0\n\
+rjmp pc+01\n\
+mov r01, r2\n\
+mov r1, r2 \n\
+\x20mov r1, r2\n\
+mov  r1, r2\n\
+mov r1,  r2\n\
+mov r1,r2\n\
+mov r1, r2, r3\n\
+mov r1\n\
+mov\n\
+MOV r1, r2\n\
+Mov r1, r2\n\
+mov R1, r2\n\
+nop \n\
+nop r0\n\
+bset 0\n\
+adiw r24, $3F\n\
+movw r1:r2, r1:r0\n\
+ld r0, z+0\n\
+ldd r0, z+0\n\
+ldd r0, z\n\
+bld r0, 00\n\
+\n\
+\x20\n\
+,\n",
+    );
 }
 
 // At the ends of the ranges, and past them.
 pub fn ranges() {
     io::write_all(1, b"ends of ranges\n");
-    tried(b"rjmp pc+2048");
-    tried(b"rjmp pc+2049");
-    tried(b"rjmp pc-2047");
-    tried(b"rjmp pc-2048");
-    tried(b"rjmp pc+32769");
-    tried(b"brlo pc+64");
-    tried(b"brlo pc+65");
-    tried(b"brlo pc-63");
-    tried(b"brlo pc-64");
-    tried(b"ldi r16, $FF");
-    tried(b"ldi r15, $FF");
-    tried(b"ldi r16, $100");
-    tried(b"mov r31, r31");
-    tried(b"mov r32, r0");
-    tried(b"mov r257, r2");
-    tried(b"ldd r0, z+63");
-    tried(b"ldd r0, z+64");
-    tried(b"sbrc r31, 7");
-    tried(b"sbrc r31, 8");
-    tried(b"out $3F, r0");
-    tried(b"out $40, r0");
-    tried(b"lds r16, $FFFF");
-    tried(b"lds r16, $10000");
-    tried(b"lds r16, $1000040");
-    tried(b"call $7FFFFF");
-    tried(b"call $800000");
+    each(
+        b"\
+rjmp pc+2048\n\
+rjmp pc+2049\n\
+rjmp pc-2047\n\
+rjmp pc-2048\n\
+rjmp pc+32769\n\
+brlo pc+64\n\
+brlo pc+65\n\
+brlo pc-63\n\
+brlo pc-64\n\
+ldi r16, $FF\n\
+ldi r15, $FF\n\
+ldi r16, $100\n\
+mov r31, r31\n\
+mov r32, r0\n\
+mov r257, r2\n\
+ldd r0, z+63\n\
+ldd r0, z+64\n\
+sbrc r31, 7\n\
+sbrc r31, 8\n\
+out $3F, r0\n\
+out $40, r0\n\
+lds r16, $FFFF\n\
+lds r16, $10000\n\
+lds r16, $1000040\n\
+call $7FFFFF\n\
+call $800000\n",
+    );
 }
 
 pub fn long_lines() {
