@@ -77,7 +77,7 @@ fn tried(what: &[u8], x: Instruction, flag: bool) {
     }
 }
 
-pub fn displacements() {
+pub(crate) fn displacements() {
     tried(b"ldd r3, y+0", of(Opcode::LDD, reg(3), y_plus(0), 2), false);
     tried(b"ldd r3, y+1", of(Opcode::LDD, reg(3), y_plus(1), 2), false);
     tried(
@@ -98,7 +98,7 @@ pub fn displacements() {
     tried(b"ld r3, y+0", of(Opcode::LD, reg(3), y_plus(0), 2), false);
 }
 
-pub fn short_addresses() {
+pub(crate) fn short_addresses() {
     let a = Operand::AddrAbsolute(0x80);
     tried(
         b"lds r16, $80 in 2 bytes",
@@ -141,7 +141,7 @@ pub fn short_addresses() {
     tried(b"lds r16, $10000", of(Opcode::LDS, reg(16), wide, 4), true);
 }
 
-pub fn lengths() {
+pub(crate) fn lengths() {
     let none = Operand::Nothing;
     let a = Operand::AddrAbsolute(0x80);
     tried(
@@ -161,7 +161,7 @@ pub fn lengths() {
     tried(b"call $80 in 2 bytes", of(Opcode::CALL, a, none, 2), true);
 }
 
-pub fn program_addresses() {
+pub(crate) fn program_addresses() {
     let none = Operand::Nothing;
     let odd = Operand::AddrAbsolute(1);
     tried(b"call $1", of(Opcode::CALL, odd, none, 4), false);
@@ -172,7 +172,7 @@ pub fn program_addresses() {
     tried(b"jmp $800000", of(Opcode::JMP, past, none, 4), true);
 }
 
-pub fn registers() {
+pub(crate) fn registers() {
     let k = Operand::ImmediateU8(63);
     tried(b"mov r31, r0", of(Opcode::MOV, reg(31), reg(0), 2), false);
     tried(b"mov r32, r0", of(Opcode::MOV, reg(32), reg(0), 2), false);
@@ -208,7 +208,7 @@ pub fn registers() {
     );
 }
 
-pub fn other_operands() {
+pub(crate) fn other_operands() {
     let none = Operand::Nothing;
     let k = Operand::ImmediateU8(1);
     let b = Operand::BitIndex(1);
@@ -221,7 +221,7 @@ pub fn other_operands() {
     tried(b"adiw r24, $01", of(Opcode::ADIW, reg(24), k, 2), true);
 }
 
-pub fn numbers() {
+pub(crate) fn numbers() {
     let none = Operand::Nothing;
     let far = Operand::AddrPCRelative(2048);
     tried(b"rjmp pc+2048", of(Opcode::RJMP, far, none, 2), false);

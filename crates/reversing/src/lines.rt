@@ -80,7 +80,7 @@ fn each(all: &[u8]) {
 }
 
 // Those of document 01, and their like.
-pub fn cases() {
+pub(crate) fn cases() {
     io::write_all(1, b"cases\n");
     each(
         b"\
@@ -111,7 +111,7 @@ nop\n",
 }
 
 // Spellings that nothing prints.
-pub fn spellings() {
+pub(crate) fn spellings() {
     io::write_all(1, b"spellings that nothing prints\n");
     each(
         b"\
@@ -150,7 +150,7 @@ bld r0, 00\n\
 }
 
 // At the ends of the ranges, and past them.
-pub fn ranges() {
+pub(crate) fn ranges() {
     io::write_all(1, b"ends of ranges\n");
     each(
         b"\
@@ -183,7 +183,7 @@ call $800000\n",
     );
 }
 
-pub fn long_lines() {
+pub(crate) fn long_lines() {
     let blanks = [b' '; 10000];
     io::write_all(1, b"10,000 blanks");
     print_both(&blanks);

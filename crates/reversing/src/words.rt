@@ -87,7 +87,7 @@ fn print_count(what: &[u8], n: u64) {
     io::write_all(1, b"\n");
 }
 
-pub fn every(flag: bool, c: u8, d: u8) {
+pub(crate) fn every(flag: bool, c: u8, d: u8) {
     if flag {
         io::write_all(1, b"every first word, flag true, second word ");
     } else {
