@@ -2,6 +2,7 @@
 //! been compared byte for byte; and the library's reverse reading. See README.md for what is measured.
 
 use std::fmt::Write;
+use std::process::{Command, Stdio};
 use std::time::Instant;
 use yaxpeax_arch::{Bytes, Decoder, StandardDecodeError};
 use yaxpeax_avr::{InstDecoder, Instruction, Target};
@@ -96,7 +97,8 @@ fn images(flag: bool) -> Vec<(&'static str, Vec<u8>)> {
     vec![("random words", random_words), ("valid 2-byte words", two), ("one in three of 4 bytes", long), ("4,096 bytes repeated", repeated)]
 }
 
-fn best(mut run: impl FnMut()) -> f64 {
+/// Seconds that a run takes.
+fn seconds(mut run: impl FnMut()) -> f64 {
     let start = Instant::now();
     run();
     start.elapsed().as_secs_f64()
@@ -108,7 +110,7 @@ fn reverse_rate(listing: &str, flag: bool) -> f64 {
     let mut found = 0u64;
     let mut least = f64::MAX;
     for _ in 0..TURNS {
-        least = least.min(best(|| {
+        least = least.min(seconds(|| {
             for line in &lines {
                 found += unsafe { avr_reverse(line.as_ptr(), line.len(), flag as u8, out.as_mut_ptr(), out.len()) };
             }
@@ -116,6 +118,23 @@ fn reverse_rate(listing: &str, flag: bool) -> f64 {
     }
     assert!(found as usize >= lines.len() * 3 * TURNS, "a printed line read back as nothing");
     lines.len() as f64 / least
+}
+
+/// Seconds that avr-objdump takes on an image, where it is installed: a process of its own, its text thrown away.
+fn objdump(image: &[u8]) -> Option<f64> {
+    let file = std::env::temp_dir().join(format!("pirukames-bench-{}", std::process::id()));
+    std::fs::write(&file, image).ok()?;
+    let mut least = None;
+    for _ in 0..3 {
+        let start = Instant::now();
+        let run = Command::new("avr-objdump").args(["-D", "-b", "binary", "-m", "avr"]).arg(&file).stdout(Stdio::null()).status();
+        if run.map_or(false, |status| status.success()) {
+            let t = start.elapsed().as_secs_f64();
+            least = Some(least.map_or(t, |s: f64| s.min(t)));
+        }
+    }
+    std::fs::remove_file(&file).ok()?;
+    least
 }
 
 fn main() {
@@ -129,15 +148,18 @@ fn main() {
             assert!(&out[..n] == text.as_bytes(), "the listings differ: {name}, {flag}");
             let (mut a, mut b) = (f64::MAX, f64::MAX);
             for _ in 0..TURNS {
-                a = a.min(best(|| theirs(&image, flag, &mut text)));
-                b = b.min(best(|| {
+                a = a.min(seconds(|| theirs(&image, flag, &mut text)));
+                b = b.min(seconds(|| {
                     ours(&image, flag, &mut out);
                 }));
             }
             let rate = |t: f64| image.len() as f64 / t / 1e6;
             println!("{:<26}{:>8}{:>12.1}{:>12.1}{:>9.2}", name, flag, rate(a), rate(b), a / b);
             if name == "random words" {
-                println!("{:<26}{:>8}{:>36.0} lines/s", "  reverse reading of it", flag, reverse_rate(&text, flag));
+                println!("{:<26}{:>8}{:>24.0} lines/s", "  reverse reading of it", flag, reverse_rate(&text, flag));
+                if let (false, Some(t)) = (flag, objdump(&image)) {
+                    println!("{:<26}{:>8}{:>24.1} MB/s", "  avr-objdump on it", "", rate(t));
+                }
             }
         }
     }

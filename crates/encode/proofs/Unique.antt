@@ -57,3 +57,7 @@ lay-unique k n = one-answer
 
 pub second-word-unique : (k n a b : ℕ) → a ≡ kindExtra k n → b ≡ kindExtra k n → a ≡ b
 second-word-unique k n = one-answer
+
+-- every function of `fields`, whose statement equates the answer with a number of the number laid, f n
+pub field-unique : (f : ℕ → ℕ) (n a b : ℕ) → a ≡ f n → b ≡ f n → a ≡ b
+field-unique f n = one-answer

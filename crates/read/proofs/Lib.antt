@@ -4,3 +4,4 @@ pub mod Spelled
 pub mod Parts
 pub mod Places
 pub mod Line
+pub mod Unique

@@ -2,10 +2,7 @@
 use mathlib.Core.Path.{_≡_, refl, sym, ap, ap₂, _∙_}
 use mathlib.Core.Bool.{Bool, true, false}
 use mathlib.Core.List.{List, _∷_}
-use mathlib.Core.Logic.{_⊎_, inl, inr}
-use Prim.Native.Nat.{ℕ, suc, _+_, _<_, _≤_, min}
-use native.Mathlib.Omega.{arith}
-use native.Mathlib.Numerals.{add-one}
+use Prim.Native.Nat.{ℕ, suc, _<_, _≤_}
 use lib.Dec.{eqb}
 use lib.Bits.{bitAnd}
 use lib.ListN.{length, getD, drop, drop-of-length-le}
@@ -50,27 +47,3 @@ module _ (flag : Bool) (w i : ℕ) where
   pub place-end : 103 ≤ i → place (drop i rows) flag w ≡ 0
   unfolding place
   place-end h = ap (λ (m : List Row). place m flag w) (drop-of-length-le rows {i = i} (rw row-count h))
-
--- ---- the least place that was found among the rows before i: the first row's, if it is one of them
-
-abbrev pub Scanned : Bool → ℕ → ℕ → ℕ → Type 0
-Scanned flag w best i =
-    ((best < i) × (place rows flag w ≡ best)) ⊎ ((best ≡ 103) × (place rows flag w ≡ i + place (drop i rows) flag w))
-
-module _ (flag : Bool) (w best i : ℕ) (h : i < 103) where
-  later : (a : Bool) → best < i → min best (pick a i 103) ≡ best
-  later true l = omega arith
-  later false l = omega arith
-
-  first : (a : Bool) → a ≡ accepts (rowAt i) flag w → best ≡ 103 → place rows flag w ≡ i + place (drop i rows) flag w
-      → Scanned flag w (min best (pick a i 103)) (i + 1)
-  first true e b p = inl (omega arith, omega (arith, place-here flag w i h (sym e)))
-  first false e b p = inr (omega arith, rw add-one (omega (arith, place-next flag w i h (sym e))))
-
-  pub scanned-turn : (a : Bool) → a ≡ accepts (rowAt i) flag w → Scanned flag w best i → Scanned flag w (min best (pick a i 103)) (i + 1)
-  scanned-turn a e (inl s) = let m = later a (s .0) in inl (omega arith, s .1 ∙ sym m)
-  scanned-turn a e (inr s) = first a e (s .0) (s .1)
-
-pub scanned-all : (flag : Bool) (w best i : ℕ) → 103 ≤ i → i ≤ 103 → Scanned flag w best i → best ≡ place rows flag w
-scanned-all flag w best i h k (inl s) = sym (s .1)
-scanned-all flag w best i h k (inr s) = omega (arith, place-end flag w i h)

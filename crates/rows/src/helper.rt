@@ -1,9 +1,8 @@
 // The search for a row over lent tables: for this project's own crates, which meet what it requires.
 ghost use mathlib.Core.Path.{_≡_};
-ghost use Prim.Native.Nat.{min};
 ghost use lib.Dec.{eqb};
 ghost use lib.Bits.{bitAnd};
-ghost use Rattle.manual.specs.Choice.{pick, both};
+ghost use Rattle.manual.specs.Choice.{both};
 ghost use Rattle.manual.specs.Rows.{rows, place};
 ghost use Rattle.rows.specs.Columns.{hasCode, maskList, valueList, targetList};
 
@@ -30,22 +29,8 @@ fn matches(m: u16, v: u16, t: u8, word: u16, flag: bool) -> bool
     false
 }
 
-// The place i of a row that accepts, and 103 for one that doesn't.
-fn or_past(accepts: bool, i: u16) -> u16
-    ensures { λ r. ⌜ r ≡ pick accepts i 103 ⌝ }
-{
-    if accepts { i } else { 103 }
-}
-
-fn least(a: u16, b: u16) -> u16
-    ensures { λ r. ⌜ r ≡ min a b ⌝ }
-{
-    if b < a { b } else { a }
-}
-
 // The place of the first row that accepts the word, or 103. Whoever looks up many words lends the tables once, since a
-// constant is copied to the stack wherever a function names it. Every row is tested, and none is branched on: the rows of a program's
-// words are as good as random, and the compiler tests eight at a time.
+// constant is copied to the stack wherever a function names it.
 pub fn scan(
     masks: &[u16; 103],
     values: &[u16; 103],
@@ -56,13 +41,12 @@ pub fn scan(
     requires { ⌜ (now masks ≡ maskList) × (now values ≡ valueList) × (now targets ≡ targetList) ⌝ }
     ensures { λ r. ⌜ r ≡ place rows flag word ⌝ }
 {
-    let mut best: u16 = 103;
-    let mut i: u16 = 0;
+    let mut i: usize = 0;
     while i < 103 {
-        let at = i as usize;
-        let accepts = matches(masks[at], values[at], targets[at], word, flag);
-        best = least(best, or_past(accepts, i));
+        if matches(masks[i], values[i], targets[i], word, flag) {
+            return i;
+        }
         i += 1;
     }
-    best as usize
+    i
 }
