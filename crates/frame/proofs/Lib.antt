@@ -3,5 +3,4 @@ pub mod Spelt
 pub mod Begins
 pub mod Chunks
 pub mod Steps
-pub mod Short
 pub mod Unique

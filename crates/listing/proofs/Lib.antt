@@ -1,5 +1,6 @@
 pub mod Rooms
 pub mod Steps
+pub mod Short
 pub mod Buffers
 pub mod LentTables
 pub mod Unique

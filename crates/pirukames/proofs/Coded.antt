@@ -13,7 +13,7 @@ use Rattle.manual.specs.Room.{written, filled}
 use Rattle.manual.specs.Lines.{limit}
 use Rattle.manual.specs.Listing.{listing}
 use Rattle.manual.specs.Lists.{lists}
-use Rattle.frame.proofs.Short.{listing-short}
+use Rattle.listing.proofs.Short.{listing-short}
 use Rattle.pirukames.specs.Library.{coded, delivers, delivered}
 
 module _ (s buffer : List ℕ) where

@@ -1,3 +1,4 @@
 pub mod Puts
+pub mod Fit
 pub mod Digits
 pub mod Unique

@@ -5,6 +5,5 @@ pub mod Lengths
 pub mod RowText
 pub mod Longest
 pub mod Pieces
-pub mod Fit
 pub mod Seat
 pub mod Unique

@@ -1,6 +1,6 @@
 -- The text is put into an array first, which has room for any, and copied where there is room.
 use borrow.Author.Needs.{needs}
-use Rattle.text.proofs.Fit.{start-length, start-fits, no-room, copied}
+use Rattle.put.proofs.Fit.{start-length, start-fits, no-room, copied}
 use Rattle.frame.proofs.answer.Statement.{statement}
 use Rattle.frame.proofs.answer.Tie as tie
 

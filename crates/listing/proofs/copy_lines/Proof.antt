@@ -10,7 +10,7 @@ use lib.ListN.{length, length-append}
 use Rattle.manual.specs.Listing.{listing}
 use Rattle.put.specs.Put.{Put}
 use Rattle.put.proofs.Puts.{nothing, length-kept}
-use Rattle.text.proofs.Fit.{at-start, start-length}
+use Rattle.put.proofs.Fit.{at-start, start-length}
 use Rattle.walk.proofs.At.{at-length}
 use Rattle.listing.proofs.Steps.{left, left-length, left-end, from-start, turn, same-text}
 use Rattle.listing.proofs.copy_lines.Statement.{statement}

@@ -8,7 +8,7 @@ use Rattle.manual.specs.Text.{names}
 use Rattle.rows.specs.Kinds.{kinds}
 use Rattle.rows.specs.Columns.{maskList, valueList, formList}
 use Rattle.text.specs.Names.{nameList, nameBytes, nameLengths}
-use Rattle.text.proofs.Fit.{start-length, start-fits, no-room, copied}
+use Rattle.put.proofs.Fit.{start-length, start-fits, no-room, copied}
 use Rattle.listing.proofs.LentTables.{lent}
 use Rattle.listing.proofs.Buffers.{over-long, past-end, a-line}
 use Rattle.listing.proofs.write_line.Statement.{statement}

@@ -3,7 +3,7 @@ use mathlib.Core.Path.{_≡_, refl, sym, ap, _∙_}
 use denote.Ref.{now}
 use native.Mathlib.Omega.{arith}
 use borrow.Author.Needs.{needs}
-use Rattle.text.proofs.Fit.{at-start, start-length}
+use Rattle.put.proofs.Fit.{at-start, start-length}
 use Rattle.pirukames.proofs.Coded.{same-text}
 use Rattle.pirukames.proofs.avr_frame.Statement.{statement}
 use Rattle.pirukames.proofs.avr_frame.Tie as tie

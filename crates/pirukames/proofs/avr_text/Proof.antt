@@ -9,7 +9,7 @@ use Rattle.rows.specs.Kinds.{kinds}
 use Rattle.rows.specs.Columns.{maskList, valueList, formList}
 use Rattle.text.specs.Names.{nameList, nameBytes, nameLengths}
 use Rattle.decode.specs.Found.{ofFound}
-use Rattle.text.proofs.Fit.{at-start, start-length}
+use Rattle.put.proofs.Fit.{at-start, start-length}
 use Rattle.listing.proofs.Rooms.{row-known}
 use Rattle.listing.proofs.LentTables.{lent}
 use Rattle.pirukames.specs.Library.{ofText}

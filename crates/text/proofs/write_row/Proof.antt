@@ -3,7 +3,7 @@ use mathlib.Core.Path.{refl}
 use lib.Dec.{lit≤}
 use Rattle.manual.specs.Text.{names}
 use Rattle.text.specs.Names.{nameList, nameBytes, nameLengths}
-use Rattle.text.proofs.Fit.{start-length, start-fits, no-room, copied}
+use Rattle.put.proofs.Fit.{start-length, start-fits, no-room, copied}
 use borrow.Author.Needs.{needs}
 use Rattle.text.proofs.write_row.Statement.{statement}
 use Rattle.text.proofs.write_row.Tie as tie

@@ -7,7 +7,7 @@ use borrow.Author.Tests.{not-true, not-false}
 use native.Mathlib.Omega.{arith}
 use Rattle.frame.proofs.Digits.{digits-drop}
 use Rattle.frame.proofs.Spelt.{spelt-length, good, answer-bad, answer-good}
-use Rattle.text.proofs.Fit.{at-start, start-length}
+use Rattle.put.proofs.Fit.{at-start, start-length}
 use Rattle.frame.proofs.Begins.{part-behind}
 use Rattle.frame.proofs.helper.put_answer.Statement.{statement}
 use Rattle.frame.proofs.helper.put_answer.Tie as tie

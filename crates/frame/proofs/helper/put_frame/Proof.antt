@@ -3,7 +3,7 @@ use denote.Ref.{now}
 use borrow.Author.Needs.{needs}
 use native.Mathlib.Omega.{arith}
 use Rattle.put.proofs.Puts.{then}
-use Rattle.frame.proofs.Short.{listing-short}
+use Rattle.listing.proofs.Short.{listing-short}
 use Rattle.frame.proofs.helper.put_frame.Statement.{statement}
 use Rattle.frame.proofs.helper.put_frame.Tie as tie
 

@@ -7,7 +7,7 @@ use borrow.Author.Needs.{needs}
 use Rattle.manual.specs.Text.{names}
 use Rattle.cut.specs.Cut.{same}
 use Rattle.text.specs.Names.{nameList, nameBytes, nameLengths}
-use Rattle.text.proofs.Fit.{at-start, start-length}
+use Rattle.put.proofs.Fit.{at-start, start-length}
 use Rattle.reverse.proofs.printing.row_prints.Statement.{statement}
 use Rattle.reverse.proofs.printing.row_prints.Tie as tie
 
