@@ -59,20 +59,21 @@ pub enum Found {
 
 // The search that decoding and listing share. Whoever reads many instructions lends the tables once.
 pub fn find(
-    masks: &[u16; 206],
+    masks: &[u16; 103],
     values: &[u16; 103],
+    targets: &[u8; 103],
     forms: &[u32; 103],
     bytes: &[u8],
     flag: bool,
 ) -> Found
-    requires { ⌜ Tables (now masks) (now values) (now forms) ⌝ }
+    requires { ⌜ Tables (now masks) (now values) (now targets) (now forms) ⌝ }
     ensures { λ r. ⌜ (ofFound r ≡ decodes flag (now (bytes .entry))) × Known r ⌝ }
 {
     if bytes.len() < 2 {
         return Found::Short(2);
     }
     let word = word_at(bytes, 0);
-    let row = rows::helper::scan(masks, values, word, flag);
+    let row = rows::helper::scan(masks, values, targets, word, flag);
     if 103 <= row {
         return Found::InvalidOpcode(word);
     }

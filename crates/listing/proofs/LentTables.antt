@@ -3,9 +3,9 @@ use mathlib.Core.Path.{refl}
 use Rattle.manual.specs.Rows.{rows}
 use Rattle.manual.specs.Text.{names}
 use Rattle.rows.specs.Kinds.{kinds}
-use Rattle.rows.specs.Columns.{maskList, valueList, formList}
+use Rattle.rows.specs.Columns.{maskList, valueList, targetList, formList}
 use Rattle.text.specs.Names.{nameList, nameBytes, nameLengths}
 use Rattle.listing.specs.Lent.{Lent}
 
-pub lent : Lent maskList valueList formList nameBytes nameLengths
-lent = record { tables = record { mask = refl; value = refl; form = refl }; name = refl; size = refl }
+pub lent : Lent maskList valueList targetList formList nameBytes nameLengths
+lent = record { tables = record { mask = refl; value = refl; target = refl; form = refl }; name = refl; size = refl }

@@ -22,6 +22,7 @@ use put::put_hex4;
 use put::put_hex6;
 use rows::tables::FORMS;
 use rows::tables::MASKS;
+use rows::tables::TARGETS;
 use rows::tables::VALUES;
 use text::names::LENGTHS;
 use text::names::NAMES;
@@ -102,8 +103,9 @@ fn put_found(
 
 // The listing line of a state that is inside the image, without its LF. It moves nothing.
 pub fn put_line(
-    masks: &[u16; 206],
+    masks: &[u16; 103],
     values: &[u16; 103],
+    targets: &[u8; 103],
     forms: &[u32; 103],
     names: &[u8; 660],
     lengths: &[u8; 110],
@@ -114,7 +116,7 @@ pub fn put_line(
     out: &mut [u8],
     o: usize,
 ) -> Walked
-    requires { ⌜ Lent (now masks) (now values) (now forms) (now names) (now lengths) ⌝ }
+    requires { ⌜ Lent (now masks) (now values) (now targets) (now forms) (now names) (now lengths) ⌝ }
     requires { ⌜ (at < length (now image)) × (length (now image) ≤ limit) × (o + 29 ≤ length (now out)) ⌝ }
     ensures { λ r. ⌜ Listed at (lineAt flag (now (image .entry)) at tail) tail (now (out .entry)) o (now (out .exit)) r ⌝ }
 {
@@ -123,7 +125,7 @@ pub fn put_line(
     if tail {
         return put_one(&mut *out, p, b);
     }
-    let found = find(masks, values, forms, &image[at..], flag);
+    let found = find(masks, values, targets, forms, &image[at..], flag);
     put_found(names, lengths, found, b, &mut *out, p)
 }
 
@@ -145,8 +147,9 @@ fn put_tail(image: &[u8], from: usize, out: &mut [u8], o: usize) -> usize
 
 // The listing of an image, each line ended by LF, with the tables lent. Where two bytes are left there is room for any line.
 fn put_lines(
-    masks: &[u16; 206],
+    masks: &[u16; 103],
     values: &[u16; 103],
+    targets: &[u8; 103],
     forms: &[u32; 103],
     names: &[u8; 660],
     lengths: &[u8; 110],
@@ -155,7 +158,7 @@ fn put_lines(
     out: &mut [u8],
     o: usize,
 ) -> usize
-    requires { ⌜ Lent (now masks) (now values) (now forms) (now names) (now lengths) ⌝ }
+    requires { ⌜ Lent (now masks) (now values) (now targets) (now forms) (now names) (now lengths) ⌝ }
     requires { ⌜ (length (now image) ≤ limit) × (o + 18 * length (now image) ≤ length (now out)) ⌝ }
     ensures { λ r. ⌜ Put (now (out .entry)) o (listing flag (now (image .entry))) (now (out .exit)) r ⌝ }
 {
@@ -165,6 +168,7 @@ fn put_lines(
         let w = put_line(
             masks,
             values,
+            targets,
             forms,
             names,
             lengths,
@@ -192,6 +196,7 @@ pub fn put_listing(image: &[u8], flag: bool, out: &mut [u8], o: usize) -> usize
     put_lines(
         &MASKS,
         &VALUES,
+        &TARGETS,
         &FORMS,
         &NAMES,
         &LENGTHS,

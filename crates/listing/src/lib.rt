@@ -21,6 +21,7 @@ use put::put_byte;
 use put::put_bytes;
 use rows::tables::FORMS;
 use rows::tables::MASKS;
+use rows::tables::TARGETS;
 use rows::tables::VALUES;
 use text::names::LENGTHS;
 use text::names::NAMES;
@@ -47,6 +48,7 @@ pub fn write_line(
     let w = put_line(
         &MASKS,
         &VALUES,
+        &TARGETS,
         &FORMS,
         &NAMES,
         &LENGTHS,
@@ -67,15 +69,16 @@ pub fn write_line(
 
 // How long the listing of an image is. Each line is written into an array, which has room for any.
 fn listing_length(
-    masks: &[u16; 206],
+    masks: &[u16; 103],
     values: &[u16; 103],
+    targets: &[u8; 103],
     forms: &[u32; 103],
     names: &[u8; 660],
     lengths: &[u8; 110],
     image: &[u8],
     flag: bool,
 ) -> usize
-    requires { ⌜ Lent (now masks) (now values) (now forms) (now names) (now lengths) ⌝ }
+    requires { ⌜ Lent (now masks) (now values) (now targets) (now forms) (now names) (now lengths) ⌝ }
     requires { ⌜ length (now image) ≤ limit ⌝ }
     ensures { λ r. ⌜ r ≡ length (listing flag (now (image .entry))) ⌝ }
 {
@@ -87,6 +90,7 @@ fn listing_length(
         let w = put_line(
             masks,
             values,
+            targets,
             forms,
             names,
             lengths,
@@ -106,8 +110,9 @@ fn listing_length(
 
 // The listing of an image, line by line by way of an array, so that no byte behind it is touched.
 fn copy_lines(
-    masks: &[u16; 206],
+    masks: &[u16; 103],
     values: &[u16; 103],
+    targets: &[u8; 103],
     forms: &[u32; 103],
     names: &[u8; 660],
     lengths: &[u8; 110],
@@ -115,7 +120,7 @@ fn copy_lines(
     flag: bool,
     out: &mut [u8],
 ) -> usize
-    requires { ⌜ Lent (now masks) (now values) (now forms) (now names) (now lengths) ⌝ }
+    requires { ⌜ Lent (now masks) (now values) (now targets) (now forms) (now names) (now lengths) ⌝ }
     requires { ⌜ (length (now image) ≤ limit) × (length (listing flag (now image)) ≤ length (now out)) ⌝ }
     ensures { λ r. ⌜ Put (now (out .entry)) 0 (listing flag (now (image .entry))) (now (out .exit)) r ⌝ }
 {
@@ -127,6 +132,7 @@ fn copy_lines(
         let w = put_line(
             masks,
             values,
+            targets,
             forms,
             names,
             lengths,
@@ -151,13 +157,23 @@ fn list_counted(image: &[u8], flag: bool, out: &mut [u8]) -> Listed
     requires { ⌜ length (now image) ≤ limit ⌝ }
     ensures { λ r. ⌜ (ofListed r ≡ written (listing flag (now (image .entry))) (now (out .entry))) × (now (out .exit) ≡ filled (listing flag (now (image .entry))) (now (out .entry))) ⌝ }
 {
-    let n = listing_length(&MASKS, &VALUES, &FORMS, &NAMES, &LENGTHS, image, flag);
+    let n = listing_length(
+        &MASKS,
+        &VALUES,
+        &TARGETS,
+        &FORMS,
+        &NAMES,
+        &LENGTHS,
+        image,
+        flag,
+    );
     if out.len() < n {
         return Listed::NoRoom(n);
     }
     Listed::Done(copy_lines(
         &MASKS,
         &VALUES,
+        &TARGETS,
         &FORMS,
         &NAMES,
         &LENGTHS,

@@ -3,41 +3,57 @@ ghost use mathlib.Core.Path.{_≡_};
 ghost use Prim.Native.Nat.{_<_};
 ghost use Rattle.manual.specs.Rows.{rows, place};
 ghost use Rattle.manual.specs.Count.{acceptedWords};
-ghost use Rattle.rows.specs.Columns.{maskFor, rowAt};
-ghost use Rattle.rows.specs.Words.{wordsFor};
+ghost use Rattle.manual.specs.Pattern.{symbols};
+ghost use Rattle.rows.specs.Columns.{maskOf, targetCode, rowAt};
+ghost use Rattle.rows.specs.Words.{wordsOf, wordsFor};
 
 pub mod helper;
 pub mod tables;
 
 use tables::MASKS;
+use tables::TARGETS;
 use tables::VALUES;
 
 // The place of the first row that accepts the word for a target with this flag, or 103.
 pub fn find_row(word: u16, flag: bool) -> usize
     ensures { λ r. ⌜ r ≡ place rows flag word ⌝ }
 {
-    helper::scan(&MASKS, &VALUES, word, flag)
+    helper::scan(&MASKS, &VALUES, &TARGETS, word, flag)
 }
 
-// The mask of a row for a target.
-fn mask_for(i: usize, flag: bool) -> u16
+// The mask of a row.
+fn mask_at(i: usize) -> u16
     requires { ⌜ i < 103 ⌝ }
-    ensures { λ r. ⌜ r ≡ maskFor flag (rowAt i) ⌝ }
+    ensures { λ r. ⌜ r ≡ maskOf (symbols (rowAt i .pattern)) ⌝ }
 {
-    let from = helper::mask_start(flag);
-    MASKS[from + i]
+    MASKS[i]
 }
 
-// How many words a row takes of a target: 2 to the power of its mask's clear bits, or none where the target has no such row.
+// The code of a row's targets.
+fn target_at(i: usize) -> u8
+    requires { ⌜ i < 103 ⌝ }
+    ensures { λ r. ⌜ r ≡ targetCode (rowAt i .targets) ⌝ }
+{
+    TARGETS[i]
+}
+
+// How many words a row takes: 2 to the power of its mask's clear bits.
+fn row_words(i: usize) -> u32
+    requires { ⌜ i < 103 ⌝ }
+    ensures { λ r. ⌜ r ≡ wordsOf (rowAt i) ⌝ }
+{
+    1u32 << (16 - u16::count_ones(mask_at(i)))
+}
+
+// How many words a row takes of a target.
 fn words_for(i: usize, flag: bool) -> u32
     requires { ⌜ i < 103 ⌝ }
     ensures { λ r. ⌜ r ≡ wordsFor (rowAt i) flag ⌝ }
 {
-    let m = mask_for(i, flag);
-    if m == 0 {
-        return 0;
+    if helper::has_target(target_at(i), flag) {
+        return row_words(i);
     }
-    1u32 << (16 - u16::count_ones(m))
+    0
 }
 
 // How many first words a target accepts: the sum over its rows, less the 128 that `ldd` and `std` share with `ld` and `st`.

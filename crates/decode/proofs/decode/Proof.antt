@@ -4,15 +4,15 @@ use borrow.Author.Needs.{needs}
 use Rattle.manual.specs.Answers.{gives}
 use Rattle.manual.specs.Rows.{rows}
 use Rattle.rows.specs.Kinds.{kinds}
-use Rattle.rows.specs.Columns.{maskList, valueList, formList}
+use Rattle.rows.specs.Columns.{maskList, valueList, targetList, formList}
 use Rattle.decode.specs.declared.helper.Found.{Found}
 use Rattle.decode.specs.Found.{ofFound, Known}
 use Rattle.decode.proofs.decode.Statement.{statement}
 use Rattle.decode.proofs.decode.Tie as tie
 
 find-requires : tie.Need-find-requires
-unfolding rows kinds maskList valueList formList
-find-requires c κs = record { mask = refl; value = refl; form = refl }
+unfolding rows kinds maskList valueList targetList formList
+find-requires c κs = record { mask = refl; value = refl; target = refl; form = refl }
 
 instruction-requires : tie.Need-instruction-requires
 instruction-requires c κs = rw (c .before .found .given .1) at (c .before .before .before .find .ensures .1)

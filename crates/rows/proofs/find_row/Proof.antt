@@ -1,12 +1,12 @@
 -- The constant tables are the columns of the rows.
 use borrow.Author.Needs.{needs}
 use Rattle.manual.specs.Rows.{rows}
-use Rattle.rows.specs.Columns.{maskList, valueList}
+use Rattle.rows.specs.Columns.{maskList, valueList, targetList}
 use Rattle.rows.proofs.find_row.Statement.{statement}
 use Rattle.rows.proofs.find_row.Tie as tie
 
 scan-requires : tie.Need-scan-requires
-unfolding rows maskList valueList
+unfolding rows maskList valueList targetList
 scan-requires c κs = search needs
 
 pub find-row-spec : {M : Type 1} → statement M
