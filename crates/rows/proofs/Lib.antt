@@ -1,6 +1,7 @@
 pub mod Table
 pub mod Masked
 pub mod Places
+pub mod FirstFit
 pub mod Forms
 pub mod Apart
 pub mod Words

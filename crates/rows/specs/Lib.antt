@@ -1,3 +1,4 @@
 pub mod Kinds
 pub mod Columns
 pub mod Words
+pub mod Fits
