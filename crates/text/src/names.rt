@@ -6,6 +6,8 @@ ghost use Rattle.decode.specs.Forms.{sregFrom};
 ghost use Rattle.put.specs.Put.{Put};
 ghost use Rattle.text.specs.Names.{nameAt, nameBytes, nameLengths, nameNumber};
 use decode::helper::sreg_bit;
+use put::put_both;
+use put::put_byte;
 
 // those of the opcodes that have one name, by the opcode's code; behind them, eight each, those of the opcodes that hold an SREG bit
 pub const NAMES: [u8; 660] = *b"\
@@ -146,13 +148,31 @@ pub fn name_number(form: u32, w: u16) -> usize
     54 + (code + 1) / 2 * 8 + sreg_bit(place, w) as usize
 }
 
-// A helper: whoever writes many names lends the tables once.
+// A helper: whoever writes many names lends the tables once. Letter by letter, since a copy of so few bytes costs more to call than to do.
 pub fn put_name(names: &[u8; 660], lengths: &[u8; 110], n: usize, out: &mut [u8], o: usize) -> usize
     requires { ⌜ (now names ≡ nameBytes) × (now lengths ≡ nameLengths) × (n < 110) × (o + 6 ≤ length (now out)) ⌝ }
     ensures { λ r. ⌜ Put (now (out .entry)) o (nameAt n) (now (out .exit)) r ⌝ }
 {
     let a = n * 6;
-    let e = a + lengths[n] as usize;
-    let all = &names[..];
-    put::put_bytes(&mut *out, o, &all[a..e])
+    let k = lengths[n];
+    if k < 2 {
+        return o;
+    }
+    let p = put_both(&mut *out, o, names[a], names[a + 1]);
+    if k < 3 {
+        return p;
+    }
+    let q = put_byte(&mut *out, p, names[a + 2]);
+    if k < 4 {
+        return q;
+    }
+    let r = put_byte(&mut *out, q, names[a + 3]);
+    if k < 5 {
+        return r;
+    }
+    let s = put_byte(&mut *out, r, names[a + 4]);
+    if k < 6 {
+        return s;
+    }
+    put_byte(&mut *out, s, names[a + 5])
 }

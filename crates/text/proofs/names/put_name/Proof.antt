@@ -1,32 +1,49 @@
--- The part of the table that holds the name.
+-- One letter after the other, up to the name's length.
 use mathlib.Core.Path.{_≡_}
-use mathlib.Core.List.{List}
-use Prim.Native.Nat.{ℕ, _≤_, _<_}
-use lib.ListN.{getD}
-use Rattle.text.specs.Names.{nameLengths}
-use Rattle.text.proofs.NameTable.{name-short, length-is, name-part}
 use borrow.Author.Needs.{needs}
 use native.Mathlib.Omega.{arith}
+use denote.Ref.{now}
+use Rattle.put.proofs.Puts.{nothing, then}
+use Rattle.text.proofs.NameTable.{not-one, at-most-six, named}
 use Rattle.text.proofs.names.put_name.Statement.{statement}
 use Rattle.text.proofs.names.put_name.Tie as tie
 
-module _ (lengths : List ℕ) (n : ℕ) (e : lengths ≡ nameLengths) (h : n < 110) where
-  at-most-six : getD lengths n 0 ≤ 6
-  at-most-six = rw (e, length-is n h) (name-short n h)
+returns : tie.Need-returns
+returns c =
+    let s = c .before .before .before in
+    let k = not-one (s .args .n) (s .pre .2) (now (s .args .lengths)) (s .pre .1) in
+    named (s .args .n) (s .pre .2) (now (s .args .names)) (now (s .args .lengths)) (s .pre .0) (s .pre .1) 0 (omega (arith, k, c .if1 .taken))
+    (nothing (now (s .args .out)) (s .args .o) (omega (arith, s .pre .3)))
 
-cast-e : tie.Need-cast-e
-cast-e c = omega (arith, at-most-six _ _ (c .before .before .pre .1) (c .before .before .pre .2))
+returns-2 : tie.Need-returns-2
+returns-2 c =
+    let s = c .before .before .before .before .before .before .before .before .before .before in
+    named (s .args .n) (s .pre .2) (now (s .args .names)) (now (s .args .lengths)) (s .pre .0) (s .pre .1) 2 (omega (arith, c .before .before .before .before .before .before .before .if1 .left, c .if2 .taken))
+    (c .before .before .before .put-both .ensures)
 
-add-e : tie.Need-add-e
-add-e c = omega (arith, at-most-six _ _ (c .before .before .pre .1) (c .before .before .pre .2))
+returns-3 : tie.Need-returns-3
+returns-3 c =
+    let s = c .before .before .before .before .before .before .before .before .before .before .before .before .before .before .before .before in
+    named (s .args .n) (s .pre .2) (now (s .args .names)) (now (s .args .lengths)) (s .pre .0) (s .pre .1) 3 (omega (arith, c .before .before .before .before .before .before .if2 .left, c .if3 .taken))
+    (then (c .before .before .before .before .before .before .before .before .before .put-both .ensures) (c .before .before .before .put-byte .ensures))
 
-part-put-bytes-end : tie.Need-part-put-bytes-end
-part-put-bytes-end c = let h = at-most-six _ _ (c .before .before .before .before .pre .1) (c .before .before .before .before .pre .2) in search needs
+returns-4 : tie.Need-returns-4
+returns-4 c =
+    let s = c .before .before .before .before .before .before .before .before .before .before .before .before .before .before .before .before .before .before .before .before .before .before in
+    named (s .args .n) (s .pre .2) (now (s .args .names)) (now (s .args .lengths)) (s .pre .0) (s .pre .1) 4 (omega (arith, c .before .before .before .before .before .before .if3 .left, c .if4 .taken))
+    (then (then (c .before .before .before .before .before .before .before .before .before .before .before .before .before .before .before .put-both .ensures) (c .before .before .before .before .before .before .before .before .before .put-byte .ensures)) (c .before .before .before .put-byte2 .ensures))
 
-put-bytes-requires : tie.Need-put-bytes-requires
-put-bytes-requires c κs =
-    let h = c .before .before .before .before .before .pre .2 in
-    rw (c .before .before .before .before .before .pre .0, c .before .before .before .before .before .pre .1, name-part (c .before .before .before .before .before .args .n) h) (omega (arith, name-short (c .before .before .before .before .before .args .n) h))
+returns-5 : tie.Need-returns-5
+returns-5 c =
+    let s = c .before .before .before .before .before .before .before .before .before .before .before .before .before .before .before .before .before .before .before .before .before .before .before .before .before .before .before .before in
+    named (s .args .n) (s .pre .2) (now (s .args .names)) (now (s .args .lengths)) (s .pre .0) (s .pre .1) 5 (omega (arith, c .before .before .before .before .before .before .if4 .left, c .if5 .taken))
+    (then (then (then (c .before .before .before .before .before .before .before .before .before .before .before .before .before .before .before .before .before .before .before .before .before .put-both .ensures) (c .before .before .before .before .before .before .before .before .before .before .before .before .before .before .before .put-byte .ensures)) (c .before .before .before .before .before .before .before .before .before .put-byte2 .ensures)) (c .before .before .before .put-byte3 .ensures))
+
+returns-6 : tie.Need-returns-6
+returns-6 c =
+    let s = c .before .before .before .before .before .before .before .before .before .before .before .before .before .before .before .before .before .before .before .before .before .before .before .before .before .before .before .before .before .before .before .before .before in
+    named (s .args .n) (s .pre .2) (now (s .args .names)) (now (s .args .lengths)) (s .pre .0) (s .pre .1) 6 (omega (arith, c .before .before .before .before .before .if5 .left, at-most-six (s .args .n) (s .pre .2) (now (s .args .lengths)) (s .pre .1)))
+    (then (then (then (then (c .before .before .before .before .before .before .before .before .before .before .before .before .before .before .before .before .before .before .before .before .before .before .before .before .before .before .put-both .ensures) (c .before .before .before .before .before .before .before .before .before .before .before .before .before .before .before .before .before .before .before .before .put-byte .ensures)) (c .before .before .before .before .before .before .before .before .before .before .before .before .before .before .put-byte2 .ensures)) (c .before .before .before .before .before .before .before .before .put-byte3 .ensures)) (c .before .before .put-byte4 .ensures))
 
 pub put-name-spec : {M : Type 1} → statement M
 put-name-spec =
@@ -34,11 +51,30 @@ put-name-spec =
     (tie.spec
     (λ c. search needs)
     (λ c. search needs)
-    cast-e
-    add-e
+    returns
     (λ c. search needs)
     (λ c. search needs)
-    part-put-bytes-end
-    put-bytes-requires
     (λ c. search needs)
-    (λ c. rw (c .before .before .before .before .before .before .before .before .pre .0, c .before .before .before .before .before .before .before .before .pre .1, name-part (c .before .before .before .before .before .before .before .before .args .n) (c .before .before .before .before .before .before .before .before .pre .2)) at (c .before .before .put-bytes .ensures)))
+    (λ c κs. search needs)
+    (λ c. search needs)
+    returns-2
+    (λ c. search needs)
+    (λ c. search needs)
+    (λ c κs. search needs)
+    (λ c. search needs)
+    returns-3
+    (λ c. search needs)
+    (λ c. search needs)
+    (λ c κs. search needs)
+    (λ c. search needs)
+    returns-4
+    (λ c. search needs)
+    (λ c. search needs)
+    (λ c κs. search needs)
+    (λ c. search needs)
+    returns-5
+    (λ c. search needs)
+    (λ c. search needs)
+    (λ c κs. search needs)
+    (λ c. search needs)
+    returns-6)
