@@ -4,6 +4,13 @@ use Rattle.put.proofs.Fit.{start-length, start-fits, no-room, copied}
 use Rattle.frame.proofs.answer.Statement.{statement}
 use Rattle.frame.proofs.answer.Tie as tie
 
+returns-2 : tie.Need-returns-2
+returns-2 c =
+    let after-copy = c .before .before in
+    let after-if1 = after-copy .before .before .before in
+    let after-put-answer = after-if1 .before .before in
+    copied (after-put-answer .put-answer .ensures) _ (after-if1 .if1 .left) _ (after-copy .copy .ensures)
+
 pub answer-spec : {M : Type 1} → statement M
 answer-spec =
     tie.close
@@ -15,4 +22,4 @@ answer-spec =
     (λ c. start-length (c .before .before .before .put-answer .ensures))
     (λ c κs. start-fits (c .before .before .before .before .put-answer .ensures) (c .before .before .if1 .left))
     (λ c. search needs)
-    (λ c. copied (c .before .before .before .before .before .before .before .put-answer .ensures) _ (c .before .before .before .before .before .if1 .left) _ (c .before .before .copy .ensures)))
+    returns-2)

@@ -38,15 +38,36 @@ module _ (s : List ℕ) (at : ℕ) (h : at < length s) (from : State) (d : List 
 
 loop-less : tie.Need-loop-less Inv-loop μ-loop
 loop-less c =
-    omega (arith, inside (now (c .before .before .before .before .before .before .before .before .before .before .before .before .before .before .before .before .args .input)) (c .before .before .before .before .before .before .before .before .before .before .before .before .loop .at) (c .before .before .before .before .before .before .before .before .before .before .before .loop-test .taken) _ _ _ _ _ _ (c .before .before .before .before .before .before .before .take-bytes .ensures), some (now (c .before .before .before .before .before .before .before .before .before .before .before .before .before .before .before .before .args .input)) (c .before .before .before .before .before .before .before .before .before .before .before .before .loop .at) (c .before .before .before .before .before .before .before .before .before .before .before .loop-test .taken) _ _ _ _ _ _ (c .before .before .before .before .before .before .before .take-bytes .ensures))
+    let after-take-bytes = c .before .before .before .before .before .before .before in
+    let after-loop-test = after-take-bytes .before .before .before .before in
+    let after-loop = after-loop-test .before in
+    let s = after-loop .before .before .before .before in
+    omega (arith, inside (now (s .args .input)) (after-loop .loop .at) (after-loop-test .loop-test .taken) _ _ _ _ _ _ (after-take-bytes .take-bytes .ensures), some (now (s .args .input)) (after-loop .loop .at) (after-loop-test .loop-test .taken) _ _ _ _ _ _ (after-take-bytes .take-bytes .ensures))
 
 loop-again : tie.Need-loop-again Inv-loop μ-loop
 loop-again c =
-    let s = now (c .before .before .before .before .before .before .before .before .before .before .before .before .before .before .before .before .args .input) in
-    let at = c .before .before .before .before .before .before .before .before .before .before .before .before .loop .at in
-    let h = c .before .before .before .before .before .before .before .before .before .before .before .loop-test .taken in
-    let z = c .before .before .before .before .before .before .before .take-bytes .ensures in
-    (inside s at h _ _ _ _ _ _ z, search needs, search needs, search needs, search needs, moved s at h _ _ _ _ _ _ z _ (c .before .before .before .before .before .before .before .before .before .before .before .before .loop .inv .5))
+    let after-take-bytes = c .before .before .before .before .before .before .before in
+    let after-loop-test = after-take-bytes .before .before .before .before in
+    let after-loop = after-loop-test .before in
+    let s = after-loop .before .before .before .before in
+    let s = now (s .args .input) in
+    let at = after-loop .loop .at in
+    let h = after-loop-test .loop-test .taken in
+    let z = after-take-bytes .take-bytes .ensures in
+    (inside s at h _ _ _ _ _ _ z, search needs, search needs, search needs, search needs, moved s at h _ _ _ _ _ _ z _ (after-loop .loop .inv .5))
+
+add-at : tie.Need-add-at Inv-loop μ-loop
+add-at c =
+    let after-take-bytes = c .before .before .before .before .before .before .before in
+    let after-loop-test = after-take-bytes .before .before .before .before in
+    let after-loop = after-loop-test .before in
+    let s = after-loop .before .before .before .before in
+    omega (arith, inside (now (s .args .input)) (after-loop .loop .at) (after-loop-test .loop-test .taken) _ _ _ _ _ _ (after-take-bytes .take-bytes .ensures))
+
+returns : tie.Need-returns Inv-loop μ-loop
+returns c =
+    let s = c .before .before .before .before .before in
+    c .before .loop .inv .5 ∙ ap (after _) (take-all (c .before .loop .at) (now (s .args .input)) (search needs))
 
 pub feed-spec : {M : Type 1} → statement M
 unfolding after
@@ -63,9 +84,9 @@ feed-spec =
     (λ c. used-within _ _ _ _ _ _ _ (c .before .before .before .before .take-bytes .ensures))
     (λ c. let z = c .before .before .before .before .before .take-bytes .ensures in sym (length-take-le _ _ (used-within _ _ _ _ _ _ _ z)))
     (λ c κs. search needs)
-    (λ c. omega (arith, inside (now (c .before .before .before .before .before .before .before .before .before .before .before .before .before .before .before .before .args .input)) (c .before .before .before .before .before .before .before .before .before .before .before .before .loop .at) (c .before .before .before .before .before .before .before .before .before .before .before .loop-test .taken) _ _ _ _ _ _ (c .before .before .before .before .before .before .before .take-bytes .ensures)))
+    add-at
     loop-less
     loop-again
     (λ c. search needs)
     (λ c. search needs)
-    (λ c. c .before .loop .inv .5 ∙ ap (after _) (take-all (c .before .loop .at) (now (c .before .before .before .before .before .args .input)) (search needs))))
+    returns)

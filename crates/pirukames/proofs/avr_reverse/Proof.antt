@@ -14,25 +14,32 @@ use Rattle.pirukames.proofs.avr_reverse.Tie as tie
 returns : tie.Need-returns
 unfolding strung
 returns c =
-    let r = c .before .before .before .before .before .before .before in
+    let after-give = c .before .before in
+    let after-enum-told = after-give .before .before .before in
+    let after-reverse = after-enum-told .before .before in
+    let r = after-reverse in
     let s = r .before .before .before in
-    let g = c .before .before .give .ensures in
-    (_, (subst (λ (x : Strings). Reverse (isSet (s .args .flag)) (now (s .args .line)) (stringsOf x)) (c .before .before .before .before .before .enum-told .given .1) (r .reverse .ensures), g .0, g .1))
+    let g = after-give .give .ensures in
+    (_, (subst (λ (x : Strings). Reverse (isSet (s .args .flag)) (now (s .args .line)) (stringsOf x)) (after-enum-told .enum-told .given .1) (r .reverse .ensures), g .0, g .1))
 
 returns-2 : tie.Need-returns-2
 returns-2 c =
-    let t = c .before .before .before .before .before in
+    let after-give-one = c .before .before in
+    let after-strings = after-give-one .before .before .before in
+    let t = after-strings in
     let r = t .before .before in
     let s = r .before .before .before in
-    let g = c .before .before .give-one .ensures in
+    let g = after-give-one .give-one .ensures in
     (_, (subst (λ (x : Strings). Reverse (isSet (s .args .flag)) (now (s .args .line)) (stringsOf x)) (t .strings .given .1) (r .reverse .ensures), g .0, g .1))
 
 returns-3 : tie.Need-returns-3
 returns-3 c =
-    let t = c .before .before .before .before .before in
+    let after-give-two = c .before .before in
+    let after-strings2 = after-give-two .before .before .before in
+    let t = after-strings2 in
     let r = t .before .before in
     let s = r .before .before .before in
-    let g = c .before .before .give-two .ensures in
+    let g = after-give-two .give-two .ensures in
     (_, (subst (λ (x : Strings). Reverse (isSet (s .args .flag)) (now (s .args .line)) (stringsOf x)) (t .strings2 .given .1) (r .reverse .ensures), g .0, g .1))
 
 pub avr-reverse-spec : {M : Type 1} → statement M

@@ -15,53 +15,99 @@ returns c =
 
 returns-2 : tie.Need-returns-2
 returns-2 c =
-    let s = c .before .before .before .before .before .before .before .args in
-    is-immediate (s .immediate) (s .s .now) _ _ (c .before .before .before .before .before .head .ensures) (c .before .before .before .before .tail .ensures)
-    (c .before .before .before .if1 .left)
-    (c .before .before .if2 .taken) (c .if3 .taken) _ (c .before .value .ensures .0)
+    let after-if2 = c .before .before in
+    let after-if1 = after-if2 .before in
+    let after-tail = after-if1 .before in
+    let after-head = after-tail .before in
+    let s = after-head .before .before in
+    let s = s .args in
+    is-immediate (s .immediate) (s .s .now) _ _ (after-head .head .ensures) (after-tail .tail .ensures)
+    (after-if1 .if1 .left)
+    (after-if2 .if2 .taken) (c .if3 .taken) _ (c .before .value .ensures .0)
 
 returns-3 : tie.Need-returns-3
 returns-3 c =
-    let s = c .before .before .before .before .before .before .before .args in
-    is-absolute (s .immediate) (s .s .now) _ _ (c .before .before .before .before .before .head .ensures) (c .before .before .before .before .tail .ensures)
-    (c .before .before .before .if1 .left)
-    (c .before .before .if2 .taken) (c .if3 .left) _ (c .before .value .ensures .0)
+    let after-if2 = c .before .before in
+    let after-if1 = after-if2 .before in
+    let after-tail = after-if1 .before in
+    let after-head = after-tail .before in
+    let s = after-head .before .before in
+    let s = s .args in
+    is-absolute (s .immediate) (s .s .now) _ _ (after-head .head .ensures) (after-tail .tail .ensures)
+    (after-if1 .if1 .left)
+    (after-if2 .if2 .taken) (c .if3 .left) _ (c .before .value .ensures .0)
 
 returns-4 : tie.Need-returns-4
 returns-4 c =
-    let s = c .before .before .before .before .before .before .before .before .args in
+    let after-if4 = c .before .before in
+    let after-if2 = after-if4 .before in
+    let after-if1 = after-if2 .before in
+    let after-tail = after-if1 .before in
+    let after-head = after-tail .before in
+    let s = after-head .before .before in
+    let s = s .args in
     let z : toZ w16 (ofZ w16 (c .distance-as .result)) ≡ c .distance-as .result = search needs in
-    is-relative (s .immediate) (s .s .now) _ _ (c .before .before .before .before .before .before .head .ensures) (c .before .before .before .before .before .tail .ensures)
-    (c .before .before .before .before .if1 .left) (c .before .before .before .if2 .left)
-    (c .before .before .if4 .taken) _ _ (c .before .tail2 .ensures) (z ∙ c .distance-as .ensures)
+    is-relative (s .immediate) (s .s .now) _ _ (after-head .head .ensures) (after-tail .tail .ensures)
+    (after-if1 .if1 .left) (after-if2 .if2 .left)
+    (after-if4 .if4 .taken) _ _ (c .before .tail2 .ensures) (z ∙ c .distance-as .ensures)
 
 returns-5 : tie.Need-returns-5
 returns-5 c =
-    let s = c .before .before .before .before .before .before .before .before .before .args in
-    is-decrement (s .immediate) (s .s .now) _ _ (c .before .before .before .before .before .before .before .head .ensures) (c .before .before .before .before .before .before .tail .ensures)
-    (c .before .before .before .before .before .if1 .left) (c .before .before .before .before .if2 .left) (c .before .before .before .if4 .left)
-    (c .before .before .if5 .taken) _ _ (c .before .head2 .ensures) (c .index-as .ensures)
+    let after-if5 = c .before .before in
+    let after-if4 = after-if5 .before in
+    let after-if2 = after-if4 .before in
+    let after-if1 = after-if2 .before in
+    let after-tail = after-if1 .before in
+    let after-head = after-tail .before in
+    let s = after-head .before .before in
+    let s = s .args in
+    is-decrement (s .immediate) (s .s .now) _ _ (after-head .head .ensures) (after-tail .tail .ensures)
+    (after-if1 .if1 .left) (after-if2 .if2 .left) (after-if4 .if4 .left)
+    (after-if5 .if5 .taken) _ _ (c .before .head2 .ensures) (c .index-as .ensures)
 
 returns-6 : tie.Need-returns-6
 returns-6 c =
-    let s = c .before .before .before .before .before .before .before .before .args in
-    is-nothing (s .immediate) (s .s .now) _ _ (c .before .before .before .before .before .before .head .ensures) (c .before .before .before .before .before .tail .ensures)
-    (c .before .before .before .before .if1 .left) (c .before .before .before .if2 .left) (c .before .before .if4 .left) (c .before .if5 .left)
+    let after-if4 = c .before .before in
+    let after-if2 = after-if4 .before in
+    let after-if1 = after-if2 .before in
+    let after-tail = after-if1 .before in
+    let after-head = after-tail .before in
+    let s = after-head .before .before in
+    let s = s .args in
+    is-nothing (s .immediate) (s .s .now) _ _ (after-head .head .ensures) (after-tail .tail .ensures)
+    (after-if1 .if1 .left) (after-if2 .if2 .left) (after-if4 .if4 .left) (c .before .if5 .left)
     (c .if6 .taken)
 
 returns-7 : tie.Need-returns-7
 returns-7 c =
-    let s = c .before .before .before .before .before .before .before .before .before .before .args in
-    is-bit (s .immediate) (s .s .now) _ _ (c .before .before .before .before .before .before .before .before .head .ensures) (c .before .before .before .before .before .before .before .tail .ensures)
-    (c .before .before .before .before .before .before .if1 .left) (c .before .before .before .before .before .if2 .left) (c .before .before .before .before .if4 .left) (c .before .before .before .if5 .left) (c .before .before .if6 .left)
+    let after-if6 = c .before .before in
+    let after-if5 = after-if6 .before in
+    let after-if4 = after-if5 .before in
+    let after-if2 = after-if4 .before in
+    let after-if1 = after-if2 .before in
+    let after-tail = after-if1 .before in
+    let after-head = after-tail .before in
+    let s = after-head .before .before in
+    let s = s .args in
+    is-bit (s .immediate) (s .s .now) _ _ (after-head .head .ensures) (after-tail .tail .ensures)
+    (after-if1 .if1 .left) (after-if2 .if2 .left) (after-if4 .if4 .left) (after-if5 .if5 .left) (after-if6 .if6 .left)
     (c .before .if7 .taken) _ (c .value2 .ensures .0)
 
 returns-8 : tie.Need-returns-8
 returns-8 c =
-    let s = c .before .before .before .before .before .before .before .before .before .before .before .args in
-    is-index (s .immediate) (s .s .now) _ _ (c .before .before .before .before .before .before .before .before .before .head .ensures) (c .before .before .before .before .before .before .before .before .tail .ensures)
-    (c .before .before .before .before .before .before .before .if1 .left) (c .before .before .before .before .before .before .if2 .left) (c .before .before .before .before .before .if4 .left) (c .before .before .before .before .if5 .left) (c .before .before .before .if6 .left)
-    (c .before .before .if7 .left) _ _ (c .before .index-as2 .ensures) (c .change-as .ensures)
+    let after-if7 = c .before .before in
+    let after-if6 = after-if7 .before in
+    let after-if5 = after-if6 .before in
+    let after-if4 = after-if5 .before in
+    let after-if2 = after-if4 .before in
+    let after-if1 = after-if2 .before in
+    let after-tail = after-if1 .before in
+    let after-head = after-tail .before in
+    let s = after-head .before .before in
+    let s = s .args in
+    is-index (s .immediate) (s .s .now) _ _ (after-head .head .ensures) (after-tail .tail .ensures)
+    (after-if1 .if1 .left) (after-if2 .if2 .left) (after-if4 .if4 .left) (after-if5 .if5 .left) (after-if6 .if6 .left)
+    (after-if7 .if7 .left) _ _ (c .before .index-as2 .ensures) (c .change-as .ensures)
 
 pub operand-as-spec : {M : Type 1} → statement M
 operand-as-spec =

@@ -18,15 +18,21 @@ abbrev μ-loop : tie.MeasureT-loop
 
 returns : tie.Need-returns Inv-loop μ-loop
 returns c =
-    let s = now (c .before .before .before .before .before .before .args .s) in
-    let i = c .before .before .before .before .loop .i in
-    sym (c .before .before .before .before .loop .inv .1 ∙ digits-step s i (c .before .before .before .loop-test .taken) ∙ rw (no-digit _ (rw (c .before .digit-value .ensures) at (c .if1 .taken))))
+    let after-loop-test = c .before .before .before in
+    let after-loop = after-loop-test .before in
+    let s = after-loop .before .before in
+    let s = now (s .args .s) in
+    let i = after-loop .loop .i in
+    sym (after-loop .loop .inv .1 ∙ digits-step s i (after-loop-test .loop-test .taken) ∙ rw (no-digit _ (rw (c .before .digit-value .ensures) at (c .if1 .taken))))
 
 loop-again : tie.Need-loop-again Inv-loop μ-loop
 loop-again c =
-    let s = now (c .before .before .before .before .before .before .args .s) in
-    let i = c .before .before .before .before .loop .i in
-    (omega arith, c .before .before .before .before .loop .inv .1 ∙ digits-step s i (c .before .before .before .loop-test .taken) ∙ rw (digit-told _ (rw (c .before .digit-value .ensures) at (c .if1 .left))))
+    let after-loop-test = c .before .before .before in
+    let after-loop = after-loop-test .before in
+    let s = after-loop .before .before in
+    let s = now (s .args .s) in
+    let i = after-loop .loop .i in
+    (omega arith, after-loop .loop .inv .1 ∙ digits-step s i (after-loop-test .loop-test .taken) ∙ rw (digit-told _ (rw (c .before .digit-value .ensures) at (c .if1 .left))))
 
 pub all-digits-spec : {M : Type 1} → statement M
 all-digits-spec =

@@ -11,6 +11,26 @@ use Rattle.frame.proofs.Spelt.{spelt-at}
 use Rattle.frame.proofs.helper.is_frame.Statement.{statement}
 use Rattle.frame.proofs.helper.is_frame.Tie as tie
 
+returns-4 : tie.Need-returns-4
+returns-4 c =
+    let after-if3 = c .before .before in
+    let after-if2 = after-if3 .before in
+    let after-if1 = after-if2 .before in
+    rw (le-leb 2 _ (after-if1 .if1 .left), le-leb _ 130 (after-if2 .if2 .left), eq-eqb _ 0 (after-if3 .if3 .left), ← c .before .all-digits .ensures, not-true (c .before .all-digits .result) (c .if4 .taken))
+
+returns-5 : tie.Need-returns-5
+returns-5 c =
+    let after-all-digits = c .before .before in
+    let after-if3 = after-all-digits .before in
+    let after-if2 = after-if3 .before in
+    let after-if1 = after-if2 .before in
+    let s = after-if1 .before .before in
+    let s = now (s .args .line) in
+    let e = c .pair .ensures ∙ sym (spelt-at s 0 (search needs)) in
+    rw
+    (le-leb 2 _ (after-if1 .if1 .left), le-leb _ 130 (after-if2 .if2 .left), eq-eqb _ 0 (after-if3 .if3 .left), ← after-all-digits .all-digits .ensures, not-false (after-all-digits .all-digits .result) (c .before .if4 .left))
+    (ap (λ (x : ℕ). leb x 1) e)
+
 pub is-frame-spec : {M : Type 1} → statement M
 unfolding isFrame isSpelt
 is-frame-spec =
@@ -20,9 +40,6 @@ is-frame-spec =
     (λ c. rw (le-leb 2 _ (c .before .if1 .left), lt-leb _ 130 (c .if2 .taken)))
     (λ c. rw (le-leb 2 _ (c .before .before .if1 .left), le-leb _ 130 (c .before .if2 .left), ne-eqb _ 0 (c .if3 .taken)))
     (λ c κs. search needs)
-    (λ c. rw (le-leb 2 _ (c .before .before .before .before .if1 .left), le-leb _ 130 (c .before .before .before .if2 .left), eq-eqb _ 0 (c .before .before .if3 .left), ← c .before .all-digits .ensures, not-true (c .before .all-digits .result) (c .if4 .taken)))
+    returns-4
     (λ c κs. (search needs, sym (c .before .all-digits .ensures) ∙ not-false (c .before .all-digits .result) (c .if4 .left)))
-    (λ c.
-    let s = now (c .before .before .before .before .before .before .before .args .line) in
-    let e = c .pair .ensures ∙ sym (spelt-at s 0 (search needs)) in
-    rw (le-leb 2 _ (c .before .before .before .before .before .if1 .left), le-leb _ 130 (c .before .before .before .before .if2 .left), eq-eqb _ 0 (c .before .before .before .if3 .left), ← c .before .before .all-digits .ensures, not-false (c .before .before .all-digits .result) (c .before .if4 .left)) (ap (λ (x : ℕ). leb x 1) e)))
+    returns-5)

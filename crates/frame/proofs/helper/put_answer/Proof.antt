@@ -62,6 +62,15 @@ returns-2 c =
     let e = answer-good s (sym (f .is-frame .ensures) ∙ not-false _ (i .if1 .left)) _ (q .pair .ensures) in
     rw (← e) (rw (at-start p) at (c .before .before .put-frame .ensures))
 
+returns : tie.Need-returns
+returns c =
+    let after-put-bytes = c .before .before in
+    let after-if1 = after-put-bytes .before .before .before in
+    let after-is-frame = after-if1 .before in
+    let s = after-is-frame .before .before .before in
+    rw (← answer-bad (now (s .args .line)) (sym (after-is-frame .is-frame .ensures) ∙ not-true _ (after-if1 .if1 .taken)))
+    (after-put-bytes .put-bytes .ensures)
+
 pub put-answer-spec : {M : Type 1} → statement M
 put-answer-spec =
     tie.close
@@ -70,7 +79,7 @@ put-answer-spec =
     (λ c. search needs)
     (λ c κs. search needs)
     (λ c. search needs)
-    (λ c. rw (← answer-bad (now (c .before .before .before .before .before .before .before .before .before .args .line)) (sym (c .before .before .before .before .before .before .is-frame .ensures) ∙ not-true _ (c .before .before .before .before .before .if1 .taken))) (c .before .before .put-bytes .ensures))
+    returns
     pair-requires
     sub-put-spelt
     part-put-spelt-start

@@ -21,11 +21,13 @@ abbrev μ-loop : tie.MeasureT-loop
 
 loop-again : tie.Need-loop-again Inv-loop μ-loop
 loop-again c =
-    let s = now (c .before .before .before .before .before .args .s) in
-    let d = now (c .before .before .before .before .before .args .image) in
-    let i = c .before .before .loop .i in
+    let after-loop = c .before .before in
+    let s = after-loop .before .before .before in
+    let s = now (s .args .s) in
+    let d = now (s .args .image) in
+    let i = after-loop .loop .i in
     let n = spelt-length s in
-    (omega arith, simp length-set (omega arith), rw (c .before .before .loop .inv .2, c .pair .ensures, ← spelt-at s i (omega arith)) (rw (zero-add i) at (put-more d 0 (bytesSpelt s) (omega arith) i (omega arith))))
+    (omega arith, simp length-set (omega arith), rw (after-loop .loop .inv .2, c .pair .ensures, ← spelt-at s i (omega arith)) (rw (zero-add i) at (put-more d 0 (bytesSpelt s) (omega arith) i (omega arith))))
 
 returns : tie.Need-returns Inv-loop μ-loop
 returns c =

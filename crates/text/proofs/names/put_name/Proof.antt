@@ -17,33 +17,63 @@ returns c =
 
 returns-2 : tie.Need-returns-2
 returns-2 c =
-    let s = c .before .before .before .before .before .before .before .before .before .before in
-    named (s .args .n) (s .pre .2) (now (s .args .names)) (now (s .args .lengths)) (s .pre .0) (s .pre .1) 2 (omega (arith, c .before .before .before .before .before .before .before .if1 .left, c .if2 .taken))
-    (c .before .before .before .put-both .ensures)
+    let after-put-both = c .before .before .before in
+    let after-if1 = after-put-both .before .before .before .before in
+    let s = after-if1 .before .before .before in
+    let s = s in
+    named (s .args .n) (s .pre .2) (now (s .args .names)) (now (s .args .lengths)) (s .pre .0) (s .pre .1) 2
+    (omega (arith, after-if1 .if1 .left, c .if2 .taken))
+    (after-put-both .put-both .ensures)
 
 returns-3 : tie.Need-returns-3
 returns-3 c =
-    let s = c .before .before .before .before .before .before .before .before .before .before .before .before .before .before .before .before in
-    named (s .args .n) (s .pre .2) (now (s .args .names)) (now (s .args .lengths)) (s .pre .0) (s .pre .1) 3 (omega (arith, c .before .before .before .before .before .before .if2 .left, c .if3 .taken))
-    (then (c .before .before .before .before .before .before .before .before .before .put-both .ensures) (c .before .before .before .put-byte .ensures))
+    let after-put-byte = c .before .before .before in
+    let after-if2 = after-put-byte .before .before .before in
+    let after-put-both = after-if2 .before .before .before in
+    let s = after-put-both .before .before .before .before .before .before .before in
+    let s = s in
+    named (s .args .n) (s .pre .2) (now (s .args .names)) (now (s .args .lengths)) (s .pre .0) (s .pre .1) 3
+    (omega (arith, after-if2 .if2 .left, c .if3 .taken))
+    (then (after-put-both .put-both .ensures) (after-put-byte .put-byte .ensures))
 
 returns-4 : tie.Need-returns-4
 returns-4 c =
-    let s = c .before .before .before .before .before .before .before .before .before .before .before .before .before .before .before .before .before .before .before .before .before .before in
-    named (s .args .n) (s .pre .2) (now (s .args .names)) (now (s .args .lengths)) (s .pre .0) (s .pre .1) 4 (omega (arith, c .before .before .before .before .before .before .if3 .left, c .if4 .taken))
-    (then (then (c .before .before .before .before .before .before .before .before .before .before .before .before .before .before .before .put-both .ensures) (c .before .before .before .before .before .before .before .before .before .put-byte .ensures)) (c .before .before .before .put-byte2 .ensures))
+    let after-put-byte2 = c .before .before .before in
+    let after-if3 = after-put-byte2 .before .before .before in
+    let after-put-byte = after-if3 .before .before .before in
+    let after-put-both = after-put-byte .before .before .before .before .before .before in
+    let s = after-put-both .before .before .before .before .before .before .before in
+    let s = s in
+    named (s .args .n) (s .pre .2) (now (s .args .names)) (now (s .args .lengths)) (s .pre .0) (s .pre .1) 4
+    (omega (arith, after-if3 .if3 .left, c .if4 .taken))
+    (then (then (after-put-both .put-both .ensures) (after-put-byte .put-byte .ensures)) (after-put-byte2 .put-byte2 .ensures))
 
 returns-5 : tie.Need-returns-5
 returns-5 c =
-    let s = c .before .before .before .before .before .before .before .before .before .before .before .before .before .before .before .before .before .before .before .before .before .before .before .before .before .before .before .before in
-    named (s .args .n) (s .pre .2) (now (s .args .names)) (now (s .args .lengths)) (s .pre .0) (s .pre .1) 5 (omega (arith, c .before .before .before .before .before .before .if4 .left, c .if5 .taken))
-    (then (then (then (c .before .before .before .before .before .before .before .before .before .before .before .before .before .before .before .before .before .before .before .before .before .put-both .ensures) (c .before .before .before .before .before .before .before .before .before .before .before .before .before .before .before .put-byte .ensures)) (c .before .before .before .before .before .before .before .before .before .put-byte2 .ensures)) (c .before .before .before .put-byte3 .ensures))
+    let after-put-byte3 = c .before .before .before in
+    let after-if4 = after-put-byte3 .before .before .before in
+    let after-put-byte2 = after-if4 .before .before .before in
+    let after-put-byte = after-put-byte2 .before .before .before .before .before .before in
+    let after-put-both = after-put-byte .before .before .before .before .before .before in
+    let s = after-put-both .before .before .before .before .before .before .before in
+    let s = s in
+    named (s .args .n) (s .pre .2) (now (s .args .names)) (now (s .args .lengths)) (s .pre .0) (s .pre .1) 5
+    (omega (arith, after-if4 .if4 .left, c .if5 .taken))
+    (then (then (then (after-put-both .put-both .ensures) (after-put-byte .put-byte .ensures)) (after-put-byte2 .put-byte2 .ensures)) (after-put-byte3 .put-byte3 .ensures))
 
 returns-6 : tie.Need-returns-6
 returns-6 c =
-    let s = c .before .before .before .before .before .before .before .before .before .before .before .before .before .before .before .before .before .before .before .before .before .before .before .before .before .before .before .before .before .before .before .before .before in
-    named (s .args .n) (s .pre .2) (now (s .args .names)) (now (s .args .lengths)) (s .pre .0) (s .pre .1) 6 (omega (arith, c .before .before .before .before .before .if5 .left, at-most-six (s .args .n) (s .pre .2) (now (s .args .lengths)) (s .pre .1)))
-    (then (then (then (then (c .before .before .before .before .before .before .before .before .before .before .before .before .before .before .before .before .before .before .before .before .before .before .before .before .before .before .put-both .ensures) (c .before .before .before .before .before .before .before .before .before .before .before .before .before .before .before .before .before .before .before .before .put-byte .ensures)) (c .before .before .before .before .before .before .before .before .before .before .before .before .before .before .put-byte2 .ensures)) (c .before .before .before .before .before .before .before .before .put-byte3 .ensures)) (c .before .before .put-byte4 .ensures))
+    let after-put-byte4 = c .before .before in
+    let after-if5 = after-put-byte4 .before .before .before in
+    let after-put-byte3 = after-if5 .before .before .before in
+    let after-put-byte2 = after-put-byte3 .before .before .before .before .before .before in
+    let after-put-byte = after-put-byte2 .before .before .before .before .before .before in
+    let after-put-both = after-put-byte .before .before .before .before .before .before in
+    let s = after-put-both .before .before .before .before .before .before .before in
+    let s = s in
+    named (s .args .n) (s .pre .2) (now (s .args .names)) (now (s .args .lengths)) (s .pre .0) (s .pre .1) 6
+    (omega (arith, after-if5 .if5 .left, at-most-six (s .args .n) (s .pre .2) (now (s .args .lengths)) (s .pre .1)))
+    (then (then (then (then (after-put-both .put-both .ensures) (after-put-byte .put-byte .ensures)) (after-put-byte2 .put-byte2 .ensures)) (after-put-byte3 .put-byte3 .ensures)) (after-put-byte4 .put-byte4 .ensures))
 
 pub put-name-spec : {M : Type 1} → statement M
 put-name-spec =
