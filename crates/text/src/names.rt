@@ -135,7 +135,7 @@ pub const LENGTHS: [u8; 110] = [
 ];
 
 // The number of a row's name, by the row's form and the first word.
-pub fn name_number(form: u32, w: u16) -> usize
+pub(crate) fn name_number(form: u32, w: u16) -> usize
     ensures { λ r. ⌜ r ≡ nameNumber (form % 128) (form / 131072 % 4) (sregFrom (form / 131072 % 4) w) ⌝ }
 {
     let code = (form % 128) as usize;
@@ -147,7 +147,13 @@ pub fn name_number(form: u32, w: u16) -> usize
 }
 
 // A helper: whoever writes many names lends the tables once.
-pub fn put_name(names: &[u8; 660], lengths: &[u8; 110], n: usize, out: &mut [u8], o: usize) -> usize
+pub(crate) fn put_name(
+    names: &[u8; 660],
+    lengths: &[u8; 110],
+    n: usize,
+    out: &mut [u8],
+    o: usize,
+) -> usize
     requires { ⌜ (now names ≡ nameBytes) × (now lengths ≡ nameLengths) × (n < 110) × (o + 6 ≤ length (now out)) ⌝ }
     ensures { λ r. ⌜ Put (now (out .entry)) o (nameAt n) (now (out .exit)) r ⌝ }
 {
