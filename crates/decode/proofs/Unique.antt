@@ -7,7 +7,7 @@ use Rattle.avr.proofs.Unique.{one-answer}
 use Rattle.avr.specs.declared.Decoded.{Decoded}
 use Rattle.avr.specs.declared.Decoded.the-variants as decoded
 use Rattle.manual.specs.Answers.{ofDecoded}
-use Rattle.manual.specs.Decode.{wordAt, decodes}
+use Rattle.manual.specs.Decode.{decodes}
 use Rattle.decode.specs.Forms.{sregFrom, bytesFrom}
 
 decoded-injective : (a b : Decoded) → ofDecoded a ≡ ofDecoded b → a ≡ b
@@ -23,9 +23,6 @@ decoded-injective (decoded.Short m) (decoded.Short n) e = cc
 
 pub decode-unique : (flag : Bool) (bs : List ℕ) (a b : Decoded) → ofDecoded a ≡ decodes flag bs → ofDecoded b ≡ decodes flag bs → a ≡ b
 decode-unique flag bs a b p q = decoded-injective a b (p ∙ sym q)
-
-pub word-at-unique : (bs : List ℕ) (at a b : ℕ) → a ≡ wordAt bs at → b ≡ wordAt bs at → a ≡ b
-word-at-unique bs at = one-answer
 
 pub sreg-bit-unique : (p w a b : ℕ) → a ≡ sregFrom p w → b ≡ sregFrom p w → a ≡ b
 sreg-bit-unique p w = one-answer

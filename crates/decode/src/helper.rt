@@ -36,7 +36,7 @@ fn wide(b: u8) -> u16
 }
 
 // The word at an offset, both of whose bytes are there.
-pub fn word_at(bytes: &[u8], at: usize) -> u16
+pub(crate) fn word_at(bytes: &[u8], at: usize) -> u16
     requires { ⌜ at + 1 < length (now bytes) ⌝ }
     ensures { λ r. ⌜ r ≡ wordAt (now (bytes .entry)) at ⌝ }
 {

@@ -1,20 +1,15 @@
 -- Two answers that a statement allows are equal, for each public function.
 use mathlib.Core.Path.{_≡_, sym, _∙_}
 use mathlib.Core.Bool.{Bool}
-use Prim.Native.Nat.{ℕ}
 use Rattle.avr.proofs.Unique.{one-answer}
 use Rattle.avr.specs.declared.Encoded.{Encoded}
 use Rattle.avr.specs.declared.Encoded.the-variants as encoded
 use Rattle.avr.specs.declared.Instruction.{Instruction}
 use Rattle.avr.specs.declared.Numbers.{Numbers}
-use Rattle.avr.specs.declared.OperandNumber.{OperandNumber}
-use Rattle.manual.specs.Choice.{both}
 use Rattle.manual.specs.Answers.{ofEncoded, isGiven}
 use Rattle.manual.specs.Numbers.{numbersOf}
-use Rattle.manual.specs.Encode.{makes, encodes}
+use Rattle.manual.specs.Encode.{encodes}
 use Rattle.encode.specs.declared.Seat.{Seat}
-use Rattle.encode.specs.declared.kinds.Range.{Range}
-use Rattle.encode.specs.ByKind.{kindForm, kindRange, kindLaid, kindExtra}
 use Rattle.encode.specs.Search.{seatOf}
 
 encoded-injective : (a b : Encoded) → ofEncoded a ≡ ofEncoded b → a ≡ b
@@ -37,27 +32,5 @@ is-record-unique flag x = one-answer
 pub row-of-unique : (flag : Bool) (x : Instruction) (a b : Seat) → a ≡ seatOf flag (numbersOf x) → b ≡ seatOf flag (numbersOf x) → a ≡ b
 row-of-unique flag x = one-answer
 
-pub row-in-unique : (flag : Bool) (x : Numbers) (a b : Seat) → a ≡ seatOf flag x → b ≡ seatOf flag x → a ≡ b
-row-in-unique flag x = one-answer
-
 pub numbers-of-unique : (x : Instruction) (a b : Numbers) → a ≡ numbersOf x → b ≡ numbersOf x → a ≡ b
 numbers-of-unique x = one-answer
-
-pub range-of-unique : (k : ℕ) (a b : Range) → a ≡ kindRange k → b ≡ kindRange k → a ≡ b
-range-of-unique k = one-answer
-
-pub and-unique : (p q a b : Bool) → a ≡ both p q → b ≡ both p q → a ≡ b
-and-unique p q = one-answer
-
-pub makes-unique : (k : ℕ) (o : OperandNumber) (a b : Bool) → a ≡ makes (kindForm k) o → b ≡ makes (kindForm k) o → a ≡ b
-makes-unique k o = one-answer
-
-pub lay-unique : (k n a b : ℕ) → a ≡ kindLaid k n → b ≡ kindLaid k n → a ≡ b
-lay-unique k n = one-answer
-
-pub second-word-unique : (k n a b : ℕ) → a ≡ kindExtra k n → b ≡ kindExtra k n → a ≡ b
-second-word-unique k n = one-answer
-
--- every function of `fields`, whose statement equates the answer with a number of the number laid, f n
-pub field-unique : (f : ℕ → ℕ) (n a b : ℕ) → a ≡ f n → b ≡ f n → a ≡ b
-field-unique f n = one-answer

@@ -94,7 +94,7 @@ fn extra_of(form: u32, x: Numbers) -> u16
 }
 
 // The row of a record and its words, over lent tables: a constant is copied to the stack wherever a function names it.
-pub fn row_in(
+pub(crate) fn row_in(
     forms: &[u32; 103],
     values: &[u16; 103],
     targets: &[u8; 103],

@@ -43,7 +43,7 @@ fn span(class: u8, low: u32, high: u32, step: u32) -> Range
     }
 }
 
-pub fn range_of(kind: u8) -> Range
+pub(crate) fn range_of(kind: u8) -> Range
     ensures { λ r. ⌜ r ≡ kindRange kind ⌝ }
 {
     match kind {
@@ -83,7 +83,7 @@ pub fn range_of(kind: u8) -> Range
     }
 }
 
-pub fn and(a: bool, b: bool) -> bool
+pub(crate) fn and(a: bool, b: bool) -> bool
     ensures { λ r. ⌜ r ≡ both a b ⌝ }
 {
     if a {
@@ -102,7 +102,7 @@ fn in_range(g: Range, n: u32) -> bool
 }
 
 // An operand of the kind has these numbers.
-pub fn makes(kind: u8, o: OperandNumber) -> bool
+pub(crate) fn makes(kind: u8, o: OperandNumber) -> bool
     ensures { λ r. ⌜ r ≡ makes (kindForm kind) o ⌝ }
 {
     let g = range_of(kind);
@@ -138,7 +138,7 @@ fn low_bits(n: u32) -> u32
 }
 
 // The bits of an operand of a kind, in the first word.
-pub fn lay(kind: u8, n: u32) -> u16
+pub(crate) fn lay(kind: u8, n: u32) -> u16
     ensures { λ r. ⌜ r ≡ kindLaid kind n ⌝ }
 {
     match kind {
@@ -179,7 +179,7 @@ pub fn lay(kind: u8, n: u32) -> u16
 }
 
 // The second word of an operand of a kind, 0 for one that needs none.
-pub fn second_word(kind: u8, n: u32) -> u32
+pub(crate) fn second_word(kind: u8, n: u32) -> u32
     ensures { λ r. ⌜ r ≡ kindExtra kind n ⌝ }
 {
     if kind == 19 {

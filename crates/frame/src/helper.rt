@@ -13,7 +13,7 @@ ghost use Rattle.manual.specs.Frames.{digitValue, allDigits, bytesSpelt, frameT
 ghost use Rattle.frame.specs.Digits.{valueOf, isFrame};
 
 // The value of an upper-case hexadecimal digit, 16 for any other byte.
-pub fn digit_value(b: u8) -> u8
+pub(crate) fn digit_value(b: u8) -> u8
     ensures { λ r. ⌜ r ≡ valueOf b ⌝ }
 {
     if b < 48 {
@@ -31,7 +31,7 @@ pub fn digit_value(b: u8) -> u8
     16
 }
 
-pub fn all_digits(s: &[u8]) -> bool
+pub(crate) fn all_digits(s: &[u8]) -> bool
     ensures { λ r. ⌜ r ≡ allDigits (now (s .entry)) ⌝ }
 {
     let mut i = 0;
@@ -45,7 +45,7 @@ pub fn all_digits(s: &[u8]) -> bool
 }
 
 // The byte that two digits spell.
-pub fn pair(s: &[u8], i: usize) -> u8
+pub(crate) fn pair(s: &[u8], i: usize) -> u8
     requires { ⌜ (i + 1 < length (now s)) × (allDigits (now s) ≡ true) ⌝ }
     ensures { λ r. ⌜ r ≡ digitValue (getD (now (s .entry)) i 0) * 16 + digitValue (getD (now (s .entry)) (i + 1) 0) ⌝ }
 {
@@ -55,7 +55,7 @@ pub fn pair(s: &[u8], i: usize) -> u8
 }
 
 // 2 to 130 digits, even in number, and the flag 00 or 01 at their head.
-pub fn is_frame(line: &[u8]) -> bool
+pub(crate) fn is_frame(line: &[u8]) -> bool
     ensures { λ r. ⌜ r ≡ isFrame (now (line .entry)) ⌝ }
 {
     if line.len() < 2 {
@@ -74,7 +74,7 @@ pub fn is_frame(line: &[u8]) -> bool
 }
 
 // The bytes that pairs of digits spell, at the start of a lent buffer.
-pub fn put_spelt(s: &[u8], image: &mut [u8]) -> usize
+pub(crate) fn put_spelt(s: &[u8], image: &mut [u8]) -> usize
     requires { ⌜ (length (now s) ≤ 2 * length (now image)) × (allDigits (now s) ≡ true) ⌝ }
     ensures { λ r. ⌜ Put (now (image .entry)) 0 (bytesSpelt (now (s .entry))) (now (image .exit)) r ⌝ }
 {
@@ -96,7 +96,7 @@ fn image_size(image: &[u8]) -> u8
 }
 
 // A frame's listing and its end line.
-pub fn put_frame(image: &[u8], flag: bool, out: &mut [u8], o: usize) -> usize
+pub(crate) fn put_frame(image: &[u8], flag: bool, out: &mut [u8], o: usize) -> usize
     requires { ⌜ (o + 1200 ≤ length (now out)) × (length (now image) ≤ 64) ⌝ }
     ensures { λ r. ⌜ Put (now (out .entry)) o (frameText (gives (record { flag = flag; image = now (image .entry) }))) (now (out .exit)) r ⌝ }
 {

@@ -8,7 +8,7 @@ ghost use Rattle.put.specs.Put.{Put};
 ghost use Rattle.frame.specs.Stream.{State, stateText, turnText, turned, ended, Stepped};
 
 // The line so far, answered as a whole line.
-pub fn put_state(line: &[u8], count: usize, out: &mut [u8], o: usize) -> usize
+pub(crate) fn put_state(line: &[u8], count: usize, out: &mut [u8], o: usize) -> usize
     requires { ⌜ (length (now line) ≡ 130) × (o + 1200 ≤ length (now out)) ⌝ }
     ensures { λ r. ⌜ Put (now (out .entry)) o (stateText (record { count = count; line = now (line .entry) })) (now (out .exit)) r ⌝ }
 {
@@ -24,7 +24,7 @@ pub struct Turn {
 }
 
 // One byte of input.
-pub fn take_byte(line: &mut [u8], count: usize, out: &mut [u8], used: usize, b: u8) -> Turn
+pub(crate) fn take_byte(line: &mut [u8], count: usize, out: &mut [u8], used: usize, b: u8) -> Turn
     requires { ⌜ (length (now line) ≡ 130) × (used + 1200 ≤ length (now out)) ⌝ }
     ensures { λ r. ⌜ _≡_ {A = State} (record { count = r .count; line = now (line .exit) }) (turned (record { count = count; line = now (line .entry) }) b) ⌝ }
     ensures { λ r. ⌜ Put (now (out .entry)) used (turnText (record { count = count; line = now (line .entry) }) b) (now (out .exit)) (r .used) ⌝ }

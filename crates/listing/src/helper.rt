@@ -102,7 +102,7 @@ fn put_found(
 }
 
 // The listing line of a state that is inside the image, without its LF. It moves nothing.
-pub fn put_line(
+pub(crate) fn put_line(
     masks: &[u16; 103],
     values: &[u16; 103],
     targets: &[u8; 103],

@@ -35,7 +35,7 @@ fn in_front(s: Str, e: Encoded) -> Strings
 }
 
 // The strings of a record, by what encoding gives for its length 2 and for its length 4, and whether it is a bld or bst.
-pub fn listed(x: bool, short: Encoded, long: Encoded) -> Strings
+pub(crate) fn listed(x: bool, short: Encoded, long: Encoded) -> Strings
     ensures { λ r. ⌜ stringsOf r ≡ listing x (ofEncoded short) (ofEncoded long) ⌝ }
 {
     match short {

@@ -100,7 +100,7 @@ fn put_near(out: &mut [u8], o: usize, half: u16, k: u16) -> usize
     put_distance(&mut *out, o, b'-', n)
 }
 
-pub fn put_kind(kind: u8, w: u16, e: u16, out: &mut [u8], o: usize) -> usize
+pub(crate) fn put_kind(kind: u8, w: u16, e: u16, out: &mut [u8], o: usize) -> usize
     requires { ⌜ o + 7 ≤ length (now out) ⌝ }
     ensures { λ r. ⌜ Put (now (out .entry)) o (operandText (kindValue kind w e)) (now (out .exit)) r ⌝ }
 {

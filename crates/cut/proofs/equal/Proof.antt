@@ -16,7 +16,7 @@ abbrev μ-loop : tie.MeasureT-loop
 μ-loop a b i₀ i = length a - i
 
 returns : tie.Need-returns Inv-loop μ-loop
-returns c = sym (same-long (c .before .args .a .now) (c .before .args .b .now) (c .if1 .taken))
+returns c = sym (same-long (c .before .args .a .now) (c .before .args .b .now) (λ e. omega arith))
 
 returns-2 : tie.Need-returns-2 Inv-loop μ-loop
 returns-2 c =

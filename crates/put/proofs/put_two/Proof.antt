@@ -8,12 +8,6 @@ use native.Mathlib.Omega.{arith}
 use Rattle.put.proofs.put_two.Statement.{statement}
 use Rattle.put.proofs.put_two.Tie as tie
 
-returns : tie.Need-returns
-returns c =
-    let after-put-both = c .before .before in
-    let s = after-put-both .before .before .before in
-    let h : s .args .n / 10 < 10 = omega arith in rw (mod-eq-of-lt h, digit-low (s .args .n / 10) h, digit-low (s .args .n % 10) (omega arith)) (after-put-both .put-both .ensures)
-
 pub put-two-spec : {M : Type 1} → statement M
 unfolding padded
 put-two-spec =
@@ -23,4 +17,6 @@ put-two-spec =
     (λ c. search needs)
     (λ c κs. search needs)
     (λ c. search needs)
-    returns)
+    (λ c.
+    let h : c .before .before .before .before .before .args .n / 10 < 10 = omega arith in
+    rw (mod-eq-of-lt h, digit-low (c .before .before .before .before .before .args .n / 10) h, digit-low (c .before .before .before .before .before .args .n % 10) (omega arith)) (c .before .before .put-both .ensures)))

@@ -3,6 +3,7 @@ use mathlib.Core.Path.{sym, ap, _∙_}
 use Prim.Native.Nat.{ℕ}
 use denote.Ref.{now}
 use lib.Dec.{leb}
+use lib.ListN.{length}
 use borrow.Author.Needs.{needs}
 use borrow.Author.Tests.{le-leb, lt-leb, eq-eqb, ne-eqb, not-true, not-false}
 use Rattle.manual.specs.Frames.{isSpelt}
@@ -37,7 +38,7 @@ is-frame-spec =
     tie.close
     (tie.spec
     (λ c. rw (lt-leb 2 _ (c .if1 .taken)))
-    (λ c. rw (le-leb 2 _ (c .before .if1 .left), lt-leb _ 130 (c .if2 .taken)))
+    (λ c. rw (le-leb 2 _ (c .before .if1 .left), lt-leb (length (now (c .before .before .before .args .line))) 130 (search needs)))
     (λ c. rw (le-leb 2 _ (c .before .before .if1 .left), le-leb _ 130 (c .before .if2 .left), ne-eqb _ 0 (c .if3 .taken)))
     (λ c κs. search needs)
     returns-4
