@@ -41,16 +41,20 @@ loop-less c =
     let after-take-bytes = c .before .before .before .before .before .before .before in
     let after-loop-test = after-take-bytes .before .before .before .before in
     let after-loop = after-loop-test .before in
-    let s = after-loop .before .before .before .before in
-    omega (arith, inside (now (s .args .input)) (after-loop .loop .at) (after-loop-test .loop-test .taken) _ _ _ _ _ _ (after-take-bytes .take-bytes .ensures), some (now (s .args .input)) (after-loop .loop .at) (after-loop-test .loop-test .taken) _ _ _ _ _ _ (after-take-bytes .take-bytes .ensures))
+    let start = after-loop .before .before .before .before in
+    let s = now (start .args .input) in
+    let at = after-loop .loop .at in
+    let h = after-loop-test .loop-test .taken in
+    let z = after-take-bytes .take-bytes .ensures in
+    omega (arith, inside s at h _ _ _ _ _ _ z, some s at h _ _ _ _ _ _ z)
 
 loop-again : tie.Need-loop-again Inv-loop μ-loop
 loop-again c =
     let after-take-bytes = c .before .before .before .before .before .before .before in
     let after-loop-test = after-take-bytes .before .before .before .before in
     let after-loop = after-loop-test .before in
-    let s = after-loop .before .before .before .before in
-    let s = now (s .args .input) in
+    let start = after-loop .before .before .before .before in
+    let s = now (start .args .input) in
     let at = after-loop .loop .at in
     let h = after-loop-test .loop-test .taken in
     let z = after-take-bytes .take-bytes .ensures in

@@ -9,6 +9,17 @@ use native.Mathlib.Omega.{arith}
 use Rattle.put.proofs.put_decimal.Statement.{statement}
 use Rattle.put.proofs.put_decimal.Tie as tie
 
+returns-2 : tie.Need-returns-2
+unfolding padded
+returns-2 c =
+    let after-put-two = c .before .before in
+    let after-put-small2 = after-put-two .before .before .before .before in
+    let after-if1 = after-put-small2 .before .before in
+    let s = after-if1 .before .before in
+    let n = s .args .n in
+    let q = after-put-two .put-two .ensures in
+    (rw (digits-more 10 (lit< tt) 3 n (after-if1 .if1 .left), digits-few 10 (lit< tt) 1 3 (n / 100) (omega arith)) (then (after-put-small2 .put-small2 .ensures .0) q), omega (arith, q .next, after-put-small2 .put-small2 .ensures .1))
+
 pub put-decimal-spec : {M : Type 1} → statement M
 unfolding padded
 put-decimal-spec =
@@ -23,7 +34,4 @@ put-decimal-spec =
     (λ c. search needs)
     (λ c κs. omega (arith, c .before .before .before .put-small2 .ensures .1))
     (λ c. search needs)
-    (λ c.
-    let n = c .before .before .before .before .before .before .before .before .before .before .args .n in
-    let q = c .before .before .put-two .ensures in
-    (rw (digits-more 10 (lit< tt) 3 n (c .before .before .before .before .before .before .before .before .if1 .left), digits-few 10 (lit< tt) 1 3 (n / 100) (omega arith)) (then (c .before .before .before .before .before .before .put-small2 .ensures .0) q), omega (arith, q .next, c .before .before .before .before .before .before .put-small2 .ensures .1))))
+    returns-2)

@@ -20,8 +20,8 @@ returns : tie.Need-returns Inv-loop μ-loop
 returns c =
     let after-loop-test = c .before .before .before in
     let after-loop = after-loop-test .before in
-    let s = after-loop .before .before in
-    let s = now (s .args .s) in
+    let start = after-loop .before .before in
+    let s = now (start .args .s) in
     let i = after-loop .loop .i in
     sym (after-loop .loop .inv .1 ∙ digits-step s i (after-loop-test .loop-test .taken) ∙ rw (no-digit _ (rw (c .before .digit-value .ensures) at (c .if1 .taken))))
 
@@ -29,8 +29,8 @@ loop-again : tie.Need-loop-again Inv-loop μ-loop
 loop-again c =
     let after-loop-test = c .before .before .before in
     let after-loop = after-loop-test .before in
-    let s = after-loop .before .before in
-    let s = now (s .args .s) in
+    let start = after-loop .before .before in
+    let s = now (start .args .s) in
     let i = after-loop .loop .i in
     (omega arith, after-loop .loop .inv .1 ∙ digits-step s i (after-loop-test .loop-test .taken) ∙ rw (digit-told _ (rw (c .before .digit-value .ensures) at (c .if1 .left))))
 

@@ -13,20 +13,24 @@ use Rattle.frame.proofs.helper.is_frame.Statement.{statement}
 use Rattle.frame.proofs.helper.is_frame.Tie as tie
 
 returns-4 : tie.Need-returns-4
+unfolding isFrame isSpelt
 returns-4 c =
     let after-if3 = c .before .before in
     let after-if2 = after-if3 .before in
     let after-if1 = after-if2 .before in
-    rw (le-leb 2 _ (after-if1 .if1 .left), le-leb _ 130 (after-if2 .if2 .left), eq-eqb _ 0 (after-if3 .if3 .left), ← c .before .all-digits .ensures, not-true (c .before .all-digits .result) (c .if4 .taken))
+    let d = c .before in
+    rw (le-leb 2 _ (after-if1 .if1 .left), le-leb _ 130 (after-if2 .if2 .left), eq-eqb _ 0 (after-if3 .if3 .left))
+    (rw (← d .all-digits .ensures, not-true (d .all-digits .result) (c .if4 .taken)))
 
 returns-5 : tie.Need-returns-5
+unfolding isFrame isSpelt
 returns-5 c =
     let after-all-digits = c .before .before in
     let after-if3 = after-all-digits .before in
     let after-if2 = after-if3 .before in
     let after-if1 = after-if2 .before in
-    let s = after-if1 .before .before in
-    let s = now (s .args .line) in
+    let start = after-if1 .before .before in
+    let s = now (start .args .line) in
     let e = c .pair .ensures ∙ sym (spelt-at s 0 (search needs)) in
     rw
     (le-leb 2 _ (after-if1 .if1 .left), le-leb _ 130 (after-if2 .if2 .left), eq-eqb _ 0 (after-if3 .if3 .left), ← after-all-digits .all-digits .ensures, not-false (after-all-digits .all-digits .result) (c .before .if4 .left))

@@ -22,12 +22,13 @@ abbrev μ-loop : tie.MeasureT-loop
 loop-again : tie.Need-loop-again Inv-loop μ-loop
 loop-again c =
     let after-loop = c .before .before in
-    let s = after-loop .before .before .before in
-    let s = now (s .args .s) in
-    let d = now (s .args .image) in
+    let start = after-loop .before .before .before in
+    let s = now (start .args .s) in
+    let d = now (start .args .image) in
     let i = after-loop .loop .i in
     let n = spelt-length s in
-    (omega arith, simp length-set (omega arith), rw (after-loop .loop .inv .2, c .pair .ensures, ← spelt-at s i (omega arith)) (rw (zero-add i) at (put-more d 0 (bytesSpelt s) (omega arith) i (omega arith))))
+    let more = rw (zero-add i) at (put-more d 0 (bytesSpelt s) (omega arith) i (omega arith)) in
+    (omega arith, simp length-set (omega arith), rw (after-loop .loop .inv .2, c .pair .ensures, ← spelt-at s i (omega arith)) more)
 
 returns : tie.Need-returns Inv-loop μ-loop
 returns c =
