@@ -69,7 +69,8 @@ pub length-kept : {d : List ℕ} {o : ℕ} {xs d₁ : List ℕ} {r₁ : ℕ} →
 length-kept {d} {o} {xs} p = ap length (p .holds) ∙ put-length d o xs (p .room)
 
 -- one text after another
-pub then : {d : List ℕ} {o : ℕ} {xs d₁ : List ℕ} {r₁ : ℕ} {ys d₂ : List ℕ} {r₂ : ℕ} → Put d o xs d₁ r₁ → Put d₁ r₁ ys d₂ r₂ → Put d o (xs ++ ys) d₂ r₂
+pub then : {d : List ℕ} {o : ℕ} {xs d₁ : List ℕ} {r₁ : ℕ} {ys d₂ : List ℕ} {r₂ : ℕ}
+    → Put d o xs d₁ r₁ → Put d₁ r₁ ys d₂ r₂ → Put d o (xs ++ ys) d₂ r₂
 then {d} {o} {xs} {d₁} {r₁} {ys} {d₂} {r₂} p q =
     let e = length-kept p in
     let l = length-append xs ys in

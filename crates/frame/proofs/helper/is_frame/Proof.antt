@@ -32,9 +32,9 @@ returns-5 c =
     let start = after-if1 .before .before in
     let s = now (start .args .line) in
     let e = c .pair .ensures ∙ sym (spelt-at s 0 (search needs)) in
-    rw
-    (le-leb 2 _ (after-if1 .if1 .left), le-leb _ 130 (after-if2 .if2 .left), eq-eqb _ 0 (after-if3 .if3 .left), ← after-all-digits .all-digits .ensures, not-false (after-all-digits .all-digits .result) (c .before .if4 .left))
-    (ap (λ (x : ℕ). leb x 1) e)
+    let d = after-all-digits .all-digits in
+    rw (le-leb 2 _ (after-if1 .if1 .left), le-leb _ 130 (after-if2 .if2 .left), eq-eqb _ 0 (after-if3 .if3 .left))
+    (rw (← d .ensures, not-false (d .result) (c .before .if4 .left)) (ap (λ (x : ℕ). leb x 1) e))
 
 pub is-frame-spec : {M : Type 1} → statement M
 unfolding isFrame isSpelt

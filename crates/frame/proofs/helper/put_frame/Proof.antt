@@ -12,7 +12,6 @@ put-bytes-requires c κs =
     let after-put-listing = c .before .before .before .before in
     let after-shared-slice-known = after-put-listing .before .before .before in
     let s = after-shared-slice-known .before in
-    let s = s in
     let h = listing-short (s .args .flag) (now (s .args .image)) (λ k. omega (arith, after-shared-slice-known .shared-slice-known .given k)) (omega arith) in
     omega (arith, after-put-listing .put-listing .ensures .next)
 
@@ -22,7 +21,6 @@ put-small-requires c κs =
     let after-put-listing = after-put-bytes .before .before .before .before .before in
     let after-shared-slice-known = after-put-listing .before .before .before in
     let s = after-shared-slice-known .before in
-    let s = s in
     let h = listing-short (s .args .flag) (now (s .args .image)) (λ k. omega (arith, after-shared-slice-known .shared-slice-known .given k)) (omega arith) in
     (omega (arith, after-put-listing .put-listing .ensures .next, after-put-bytes .put-bytes .ensures .next), omega arith)
 
@@ -33,7 +31,6 @@ put-byte-requires c κs =
     let after-put-listing = after-put-bytes .before .before .before .before .before in
     let after-shared-slice-known = after-put-listing .before .before .before in
     let s = after-shared-slice-known .before in
-    let s = s in
     let h = listing-short (s .args .flag) (now (s .args .image)) (λ k. omega (arith, after-shared-slice-known .shared-slice-known .given k)) (omega arith) in
     omega (arith, after-put-listing .put-listing .ensures .next, after-put-bytes .put-bytes .ensures .next, after-put-small .put-small .ensures .1)
 
