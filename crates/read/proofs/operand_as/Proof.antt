@@ -19,8 +19,7 @@ returns-2 c =
     let after-if1 = after-if2 .before in
     let after-tail = after-if1 .before in
     let after-head = after-tail .before in
-    let s = after-head .before .before in
-    let s = s .args in
+    let s = after-head .before .before .args in
     is-immediate (s .immediate) (s .s .now) _ _ (after-head .head .ensures) (after-tail .tail .ensures)
     (after-if1 .if1 .left)
     (after-if2 .if2 .taken) (c .if3 .taken) _ (c .before .value .ensures .0)
@@ -31,8 +30,7 @@ returns-3 c =
     let after-if1 = after-if2 .before in
     let after-tail = after-if1 .before in
     let after-head = after-tail .before in
-    let s = after-head .before .before in
-    let s = s .args in
+    let s = after-head .before .before .args in
     is-absolute (s .immediate) (s .s .now) _ _ (after-head .head .ensures) (after-tail .tail .ensures)
     (after-if1 .if1 .left)
     (after-if2 .if2 .taken) (c .if3 .left) _ (c .before .value .ensures .0)
@@ -44,8 +42,7 @@ returns-4 c =
     let after-if1 = after-if2 .before in
     let after-tail = after-if1 .before in
     let after-head = after-tail .before in
-    let s = after-head .before .before in
-    let s = s .args in
+    let s = after-head .before .before .args in
     let z : toZ w16 (ofZ w16 (c .distance-as .result)) ≡ c .distance-as .result = search needs in
     is-relative (s .immediate) (s .s .now) _ _ (after-head .head .ensures) (after-tail .tail .ensures)
     (after-if1 .if1 .left) (after-if2 .if2 .left)
@@ -59,8 +56,7 @@ returns-5 c =
     let after-if1 = after-if2 .before in
     let after-tail = after-if1 .before in
     let after-head = after-tail .before in
-    let s = after-head .before .before in
-    let s = s .args in
+    let s = after-head .before .before .args in
     is-decrement (s .immediate) (s .s .now) _ _ (after-head .head .ensures) (after-tail .tail .ensures)
     (after-if1 .if1 .left) (after-if2 .if2 .left) (after-if4 .if4 .left)
     (after-if5 .if5 .taken) _ _ (c .before .head2 .ensures) (c .index-as .ensures)
@@ -72,8 +68,7 @@ returns-6 c =
     let after-if1 = after-if2 .before in
     let after-tail = after-if1 .before in
     let after-head = after-tail .before in
-    let s = after-head .before .before in
-    let s = s .args in
+    let s = after-head .before .before .args in
     is-nothing (s .immediate) (s .s .now) _ _ (after-head .head .ensures) (after-tail .tail .ensures)
     (after-if1 .if1 .left) (after-if2 .if2 .left) (after-if4 .if4 .left) (c .before .if5 .left)
     (c .if6 .taken)
@@ -87,8 +82,7 @@ returns-7 c =
     let after-if1 = after-if2 .before in
     let after-tail = after-if1 .before in
     let after-head = after-tail .before in
-    let s = after-head .before .before in
-    let s = s .args in
+    let s = after-head .before .before .args in
     is-bit (s .immediate) (s .s .now) _ _ (after-head .head .ensures) (after-tail .tail .ensures)
     (after-if1 .if1 .left) (after-if2 .if2 .left) (after-if4 .if4 .left) (after-if5 .if5 .left) (after-if6 .if6 .left)
     (c .before .if7 .taken) _ (c .value2 .ensures .0)
@@ -103,8 +97,7 @@ returns-8 c =
     let after-if1 = after-if2 .before in
     let after-tail = after-if1 .before in
     let after-head = after-tail .before in
-    let s = after-head .before .before in
-    let s = s .args in
+    let s = after-head .before .before .args in
     is-index (s .immediate) (s .s .now) _ _ (after-head .head .ensures) (after-tail .tail .ensures)
     (after-if1 .if1 .left) (after-if2 .if2 .left) (after-if4 .if4 .left) (after-if5 .if5 .left) (after-if6 .if6 .left)
     (after-if7 .if7 .left) _ _ (c .before .index-as2 .ensures) (c .change-as .ensures)
