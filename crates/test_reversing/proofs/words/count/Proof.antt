@@ -3,8 +3,8 @@ use Prim.Native.Nat.{_-_, _≤_}
 use mathlib.Core.Logic.{⊎-elim}
 use native.Mathlib.Omega.{arith}
 use borrow.Author.Needs.{needs}
-use Rattle.reversing.proofs.words.count.Statement.{statement}
-use Rattle.reversing.proofs.words.count.Tie as tie
+use Rattle.test_reversing.proofs.words.count.Statement.{statement}
+use Rattle.test_reversing.proofs.words.count.Tie as tie
 
 abbrev Inv-loop : tie.InvT-loop
 Inv-loop v flag c d n₀ w₀ n w = (n ≤ w) × (w ≤ 65536)

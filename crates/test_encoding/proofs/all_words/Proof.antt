@@ -2,8 +2,8 @@
 use Prim.Native.Nat.{_-_, _≤_}
 use native.Mathlib.Omega.{arith}
 use borrow.Author.Needs.{needs}
-use Rattle.encoding.proofs.all_words.Statement.{statement}
-use Rattle.encoding.proofs.all_words.Tie as tie
+use Rattle.test_encoding.proofs.all_words.Statement.{statement}
+use Rattle.test_encoding.proofs.all_words.Tie as tie
 
 abbrev Inv-loop : tie.InvT-loop
 Inv-loop target counts₀ w₀ counts w = w ≤ 65536

@@ -4,8 +4,8 @@ use Prim.Native.Nat.{_≤_}
 use lib.ListN.{length}
 use lib.Seq.{length-take-le}
 use borrow.Author.Needs.{needs}
-use Rattle.reversing.proofs.words.verdict.Statement.{statement}
-use Rattle.reversing.proofs.words.verdict.Tie as tie
+use Rattle.test_reversing.proofs.words.verdict.Statement.{statement}
+use Rattle.test_reversing.proofs.words.verdict.Tie as tie
 
 part : tie.Need-slice-aggregate-judged
 part c =

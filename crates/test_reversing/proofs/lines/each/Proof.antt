@@ -3,8 +3,8 @@ use Prim.Native.Nat.{_-_, _≤_}
 use native.Mathlib.Omega.{arith}
 use lib.ListN.{length}
 use borrow.Author.Needs.{needs}
-use Rattle.reversing.proofs.lines.each.Statement.{statement}
-use Rattle.reversing.proofs.lines.each.Tie as tie
+use Rattle.test_reversing.proofs.lines.each.Statement.{statement}
+use Rattle.test_reversing.proofs.lines.each.Tie as tie
 
 abbrev Inv-loop : tie.InvT-loop
 Inv-loop all i₀ i = i ≤ length all

@@ -2,8 +2,8 @@
 use Prim.Native.Nat.{_-_, _≤_}
 use native.Mathlib.Omega.{arith}
 use borrow.Author.Needs.{needs}
-use Rattle.vectors.proofs.print_target.Statement.{statement}
-use Rattle.vectors.proofs.print_target.Tie as tie
+use Rattle.test_vectors.proofs.print_target.Statement.{statement}
+use Rattle.test_vectors.proofs.print_target.Tie as tie
 
 abbrev Inv-loop : tie.InvT-loop
 Inv-loop target w₀ w = w ≤ 65536

@@ -4,8 +4,8 @@ use denote.Ref.{now}
 use native.Mathlib.Omega.{arith}
 use borrow.Author.Needs.{needs}
 use lib.Seq.{length-take-le}
-use Rattle.vectors.proofs.print_first_of.Statement.{statement}
-use Rattle.vectors.proofs.print_first_of.Tie as tie
+use Rattle.test_vectors.proofs.print_first_of.Statement.{statement}
+use Rattle.test_vectors.proofs.print_first_of.Tie as tie
 
 slice-aggregate-print : tie.Need-slice-aggregate-print
 slice-aggregate-print c =

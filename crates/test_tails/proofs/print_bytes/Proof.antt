@@ -2,8 +2,8 @@
 use Prim.Native.Nat.{_≤_, _-_}
 use lib.ListN.{length}
 use borrow.Author.Needs.{needs}
-use Rattle.tails.proofs.print_bytes.Statement.{statement}
-use Rattle.tails.proofs.print_bytes.Tie as tie
+use Rattle.test_tails.proofs.print_bytes.Statement.{statement}
+use Rattle.test_tails.proofs.print_bytes.Tie as tie
 
 abbrev Inv-loop : tie.InvT-loop
 Inv-loop image j₀ j = j ≤ length image

@@ -4,8 +4,8 @@ use native.Mathlib.Omega.{arith}
 use lib.Seq.{length-take-le}
 use denote.Ref.{now}
 use borrow.Author.Needs.{needs}
-use Rattle.tails.proofs.print_text.Statement.{statement}
-use Rattle.tails.proofs.print_text.Tie as tie
+use Rattle.test_tails.proofs.print_text.Statement.{statement}
+use Rattle.test_tails.proofs.print_text.Tie as tie
 
 part : tie.Need-slice-aggregate-write-all
 part c =
