@@ -205,6 +205,12 @@ pub enum Listed {
     TooLong,
 }
 
+// What reading a line as a frame answers: its flag and how many bytes its image has, or that it is no frame.
+pub enum Framed {
+    Frame(bool, usize),
+    BadFrame,
+}
+
 // What answering a frame's line answers: how many bytes it wrote, or how many it needs.
 pub enum Answered {
     Done(usize),

@@ -12,7 +12,7 @@ use borrow.Author.Tests.{le-ltb, lt-ltb, ltb-true, ltb-false}
 use Rattle.manual.specs.Choice.{pick}
 use Rattle.manual.specs.Frames.{lineAnswer, inFront, pieces, answered, printedFor}
 use Rattle.frame.specs.Stream.{State, stateText, turnText, turned, texts, after, ended, inPieces}
-use Rattle.frame.proofs.Spelt.{answer-long}
+use Rattle.frame.proofs.Read.{answer-long}
 
 -- ---- pieces joined
 

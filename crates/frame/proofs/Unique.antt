@@ -1,15 +1,35 @@
 -- Two answers that a statement allows are equal. For the writers `put_answer` and `finish`, whose statement is `Put`, that is `put-unique`.
-use mathlib.Core.Path.{_≡_, sym, ap, _∙_}
+use mathlib.Core.Path.{_≡_, refl, sym, ap, _∙_}
+use mathlib.Core.Bool.{Bool}
 use mathlib.Core.List.{List}
 use Prim.Native.Nat.{ℕ}
 use lib.ListN.{take}
+use Rattle.avr.specs.declared.Framed.{Framed}
+use Rattle.avr.specs.declared.Framed.the-variants as framed
 use Rattle.avr.specs.declared.Answered.{Answered}
 use Rattle.avr.specs.declared.Answered.the-variants as answered
-use Rattle.manual.specs.Answers.{ofAnswered}
-use Rattle.manual.specs.Frames.{lineAnswer}
+use Rattle.manual.specs.Answers.{ofFramed, ofAnswered}
+use Rattle.manual.specs.Frames.{frameOf, reads, imageLeft, lineAnswer}
 use Rattle.manual.specs.Room.{written, filled}
 use Rattle.put.proofs.Unique.{put-unique}
 use Rattle.frame.specs.Stream.{State, after, Stepped}
+
+framed-injective : (a b : Framed) → ofFramed a ≡ ofFramed b → a ≡ b
+framed-injective (framed.Frame f m) (framed.Frame g n) e =
+    let x : _≡_ {A = Bool × ℕ} (f, m) (g, n) = cc in
+    let y : f ≡ g = ap (λ (p : Bool × ℕ). p .0) x in
+    let z : m ≡ n = ap (λ (p : Bool × ℕ). p .1) x in
+    cc
+framed-injective (framed.Frame f m) framed.BadFrame e = cc
+framed-injective framed.BadFrame (framed.Frame g n) e = cc
+framed-injective framed.BadFrame framed.BadFrame e = refl
+
+-- the answer, and the buffer after the call
+pub read-frame-unique : (line out : List ℕ) (a b : Framed) (d e : List ℕ)
+    → (ofFramed a ≡ reads (frameOf line)) × (d ≡ imageLeft (frameOf line) out)
+    → (ofFramed b ≡ reads (frameOf line)) × (e ≡ imageLeft (frameOf line) out)
+    → (a ≡ b) × (d ≡ e)
+read-frame-unique line out a b d e p q = (framed-injective a b (p .0 ∙ sym (q .0)), p .1 ∙ sym (q .1))
 
 answered-injective : (a b : Answered) → ofAnswered a ≡ ofAnswered b → a ≡ b
 answered-injective (answered.Done m) (answered.Done n) e = cc

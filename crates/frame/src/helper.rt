@@ -1,58 +1,19 @@
-// A line's digits, and its answer put into a lent buffer: for this project's own crates.
+// A line as a frame, and its answer put into a lent buffer: for this project's own crates.
+use avr::Framed;
 use listing::helper::put_listing;
 use put::put_byte;
 use put::put_bytes;
 use put::put_small;
+use spell::all_digits;
+use spell::helper::pair;
+use spell::helper::put_spelt;
 ghost use mathlib.Core.Path.{_≡_};
-ghost use mathlib.Core.Bool.{true};
-ghost use Prim.Native.Nat.{_+_, _*_, _<_, _≤_};
-ghost use lib.ListN.{length, getD};
+ghost use Prim.Native.Nat.{_+_, _≤_};
+ghost use lib.ListN.{length};
 ghost use Rattle.put.specs.Put.{Put};
-ghost use Rattle.manual.specs.Answers.{gives};
-ghost use Rattle.manual.specs.Frames.{digitValue, allDigits, bytesSpelt, frameText, lineAnswer};
-ghost use Rattle.frame.specs.Digits.{valueOf, isFrame};
-
-// The value of an upper-case hexadecimal digit, 16 for any other byte.
-pub(crate) fn digit_value(b: u8) -> u8
-    ensures { λ r. ⌜ r ≡ valueOf b ⌝ }
-{
-    if b < 48 {
-        return 16;
-    }
-    if b <= 57 {
-        return b - 48;
-    }
-    if b < 65 {
-        return 16;
-    }
-    if b <= 70 {
-        return b - 55;
-    }
-    16
-}
-
-pub(crate) fn all_digits(s: &[u8]) -> bool
-    ensures { λ r. ⌜ r ≡ allDigits (now (s .entry)) ⌝ }
-{
-    let mut i = 0;
-    while i < s.len() {
-        if 16 <= digit_value(s[i]) {
-            return false;
-        }
-        i += 1;
-    }
-    true
-}
-
-// The byte that two digits spell.
-pub(crate) fn pair(s: &[u8], i: usize) -> u8
-    requires { ⌜ (i + 1 < length (now s)) × (allDigits (now s) ≡ true) ⌝ }
-    ensures { λ r. ⌜ r ≡ digitValue (getD (now (s .entry)) i 0) * 16 + digitValue (getD (now (s .entry)) (i + 1) 0) ⌝ }
-{
-    let high = digit_value(s[i]);
-    let low = digit_value(s[i + 1]);
-    high * 16 + low
-}
+ghost use Rattle.manual.specs.Answers.{gives, ofFramed};
+ghost use Rattle.manual.specs.Frames.{frameOf, reads, imageLeft, frameText, lineAnswer};
+ghost use Rattle.frame.specs.Test.{isFrame};
 
 // 2 to 130 digits, even in number, and the flag 00 or 01 at their head.
 pub(crate) fn is_frame(line: &[u8]) -> bool
@@ -71,20 +32,6 @@ pub(crate) fn is_frame(line: &[u8]) -> bool
         return false;
     }
     pair(line, 0) <= 1
-}
-
-// The bytes that pairs of digits spell, at the start of a lent buffer.
-pub(crate) fn put_spelt(s: &[u8], image: &mut [u8]) -> usize
-    requires { ⌜ (length (now s) ≤ 2 * length (now image)) × (allDigits (now s) ≡ true) ⌝ }
-    ensures { λ r. ⌜ Put (now (image .entry)) 0 (bytesSpelt (now (s .entry))) (now (image .exit)) r ⌝ }
-{
-    let n = s.len() / 2;
-    let mut i = 0;
-    while i < n {
-        image[i] = pair(s, 2 * i);
-        i += 1;
-    }
-    n
 }
 
 // How many bytes the image of a frame has.
@@ -106,16 +53,29 @@ pub(crate) fn put_frame(image: &[u8], flag: bool, out: &mut [u8], o: usize) -> u
     put_byte(&mut *out, t, 10)
 }
 
+// A line as a frame: its image at the start of a lent buffer. For refusal 6 nothing is written.
+pub(crate) fn put_image(line: &[u8], image: &mut [u8]) -> Framed
+    requires { ⌜ 64 ≤ length (now image) ⌝ }
+    ensures { λ r. ⌜ ofFramed r ≡ reads (frameOf (now (line .entry))) ⌝ }
+    ensures { λ r. ⌜ now (image .exit) ≡ imageLeft (frameOf (now (line .entry))) (now (image .entry)) ⌝ }
+{
+    if !is_frame(line) {
+        return Framed::BadFrame;
+    }
+    let flag = pair(line, 0) == 1;
+    let n = put_spelt(&line[2..], &mut *image, 0);
+    Framed::Frame(flag, n)
+}
+
 // What a line prints: its frame, or `bad frame`.
 pub fn put_answer(line: &[u8], out: &mut [u8], o: usize) -> usize
     requires { ⌜ o + 1200 ≤ length (now out) ⌝ }
     ensures { λ r. ⌜ Put (now (out .entry)) o (lineAnswer (now (line .entry))) (now (out .exit)) r ⌝ }
 {
-    if !is_frame(line) {
-        return put_bytes(&mut *out, o, b"bad frame\n");
-    }
-    let flag = pair(line, 0) == 1;
     let mut image = [0u8; 64];
-    let n = put_spelt(&line[2..], &mut image);
+    let framed = put_image(line, &mut image);
+    let Framed::Frame(flag, n) = framed else {
+        return put_bytes(&mut *out, o, b"bad frame\n");
+    };
     put_frame(&image[..n], flag, &mut *out, o)
 }

@@ -9,7 +9,8 @@ use Rattle.manual.specs.Decode.{rowInstruction, decodes}
 use Rattle.manual.specs.Text.{chars, digit, digits, padded, names, mnemonic, registerText, relativeText, immediateText, addressText, operandText, textOf}
 use Rattle.manual.specs.Lines.{linesOwed, linesFrom, lines}
 use Rattle.manual.specs.Listing.{lineText, listingLine, listing}
-use Rattle.manual.specs.Frames.{allDigits, bytesSpelt, isSpelt, frameOf, lineAnswer, pieces, printedFor}
+use Rattle.manual.specs.Frames.{isSpelt, frameOf, lineAnswer, pieces, printedFor}
+use Rattle.manual.specs.Spelt.{allDigits, bytesSpelt}
 
 -- lines, each ended by LF
 abbrev ended : List String → List ℕ

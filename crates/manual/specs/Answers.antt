@@ -16,6 +16,8 @@ use Rattle.avr.specs.declared.Str.{Str}
 use Rattle.avr.specs.declared.Str.the-variants as str
 use Rattle.avr.specs.declared.Strings.{Strings}
 use Rattle.avr.specs.declared.Strings.the-variants as strings
+use Rattle.avr.specs.declared.Framed.{Framed}
+use Rattle.avr.specs.declared.Framed.the-variants as framed
 use Rattle.avr.specs.declared.Answered.{Answered}
 use Rattle.avr.specs.declared.Answered.the-variants as answered
 use Rattle.avr.specs.declared.Written.{Written}
@@ -70,6 +72,11 @@ abbrev pub ofWritten : Written → Answer ℕ
 ofWritten (written.Done n) = gives n
 ofWritten written.NoSuchRecord = noSuchRecord
 ofWritten (written.NoRoom n) = noRoom n
+
+-- a frame's flag and how many bytes its image has
+abbrev pub ofFramed : Framed → Answer (Bool × ℕ)
+ofFramed (framed.Frame flag n) = gives (flag, n)
+ofFramed framed.BadFrame = badFrame
 
 -- how many bytes of a frame's answer were written
 abbrev pub ofAnswered : Answered → Answer ℕ

@@ -1,33 +1,18 @@
 -- The frame program: a line of hexadecimal digits is a frame, a flag and an image, and what is printed for it; and what is printed for
 -- a whole input.
-use Prim.Native.Nat.{ℕ, _+_, _-_, _*_, _%_}
-use mathlib.Core.Bool.{Bool, true}
+use Prim.Native.Nat.{ℕ, _%_}
+use mathlib.Core.Bool.{Bool}
 use mathlib.Core.List.{List, [], _∷_, _++_}
 use lib.Dec.{leb, eqb}
 use lib.ListN.{length, getD, drop}
-use Rattle.manual.specs.Choice.{pick, both, either}
+use Rattle.manual.specs.Choice.{pick, both}
 use Rattle.manual.specs.Answers.{Answer, gives, refuses, badFrame}
+use Rattle.manual.specs.Room.{filled}
 use Rattle.manual.specs.Text.{chars, decimal}
 use Rattle.manual.specs.Listing.{listing}
+use Rattle.manual.specs.Spelt.{allDigits, bytesSpelt}
 
 -- ---- a line
-
--- an upper-case hexadecimal digit, and its value
-abbrev pub isDigit : ℕ → Bool
-isDigit b = either (both (leb 48 b) (leb b 57)) (both (leb 65 b) (leb b 70))
-
-abbrev pub digitValue : ℕ → ℕ
-digitValue b = pick (leb b 57) (b - 48) (b - 55)
-
-unfoldable pub allDigits : List ℕ → Bool
-allDigits [] = true
-allDigits (b ∷ bs) = both (isDigit b) (allDigits bs)
-
--- the bytes that pairs of digits spell
-unfoldable pub bytesSpelt : List ℕ → List ℕ
-bytesSpelt [] = []
-bytesSpelt (a ∷ []) = []
-bytesSpelt (a ∷ b ∷ r) = (digitValue a * 16 + digitValue b) ∷ bytesSpelt r
 
 -- 2 to 130 digits, even in number
 unfoldable pub isSpelt : List ℕ → Bool
@@ -44,10 +29,20 @@ frameOf s =
     let bs = bytesSpelt s in
     pick (both (isSpelt s) (leb (getD bs 0 0) 1)) (gives (record { flag = eqb (getD bs 0 0) 1; image = drop 1 bs })) badFrame
 
--- a frame's listing, then its end line with the number of its bytes
+-- reading a line as a frame: the flag and how many bytes the image has, or the refusal
+abbrev pub reads : Answer Frame → Answer (Bool × ℕ)
+reads (gives f) = gives (f .flag, length (f .image))
+reads (refuses n vs) = refuses n vs
+
+-- the buffer afterwards, which is lent for the image
+abbrev pub imageLeft : Answer Frame → List ℕ → List ℕ
+imageLeft (gives f) buffer = filled (f .image) buffer
+imageLeft (refuses n vs) buffer = buffer
+
+-- a frame's listing, then its end line with the number of its bytes; for refusal 6 `bad frame`, and there is no other
 abbrev pub frameText : Answer Frame → List ℕ
 frameText (gives f) = listing (f .flag) (f .image) ++ (chars "end " ++ (decimal (length (f .image)) ++ (10 ∷ [])))
-frameText (refuses n vs) = chars "bad frame" ++ (10 ∷ [])
+frameText (refuses n vs) = pick (eqb n 6) (chars "bad frame" ++ (10 ∷ [])) []
 
 -- what is printed for a line
 unfoldable pub lineAnswer : List ℕ → List ℕ

@@ -15,5 +15,6 @@ pub mod Writing
 pub mod Lines
 pub mod Listing
 pub mod Lists
+pub mod Spelt
 pub mod Frames
 pub mod Reverse

@@ -7,8 +7,8 @@ use lib.ListN.{length}
 use borrow.Author.Needs.{needs}
 use borrow.Author.Tests.{le-leb, lt-leb, eq-eqb, ne-eqb, not-true, not-false}
 use Rattle.manual.specs.Frames.{isSpelt}
-use Rattle.frame.specs.Digits.{isFrame}
-use Rattle.frame.proofs.Spelt.{spelt-at}
+use Rattle.frame.specs.Test.{isFrame}
+use Rattle.spell.proofs.Spelt.{spelt-at}
 use Rattle.frame.proofs.helper.is_frame.Statement.{statement}
 use Rattle.frame.proofs.helper.is_frame.Tie as tie
 

@@ -4,11 +4,12 @@ use Prim.Native.Nat.{_-_, _≤_}
 use denote.Ref.{now}
 use lib.ListN.{length, drop}
 use borrow.Author.Needs.{needs}
+use borrow.Author.Tests.{not-true, not-false}
 use native.Mathlib.Omega.{arith}
-use Rattle.manual.specs.Frames.{allDigits}
-use Rattle.frame.proofs.Digits.{digit-told, no-digit, digits-step, digits-end}
-use Rattle.frame.proofs.helper.all_digits.Statement.{statement}
-use Rattle.frame.proofs.helper.all_digits.Tie as tie
+use Rattle.manual.specs.Spelt.{allDigits}
+use Rattle.spell.proofs.Digits.{digits-step, digits-end}
+use Rattle.spell.proofs.all_digits.Statement.{statement}
+use Rattle.spell.proofs.all_digits.Tie as tie
 
 abbrev Inv-loop : tie.InvT-loop
 Inv-loop s i₀ i = (i ≤ length s) × (allDigits s ≡ allDigits (drop i s))
@@ -23,7 +24,8 @@ returns c =
     let start = after-loop .before .before in
     let s = now (start .args .s) in
     let i = after-loop .loop .i in
-    sym (after-loop .loop .inv .1 ∙ digits-step s i (after-loop-test .loop-test .taken) ∙ rw (no-digit _ (rw (c .before .digit-value .ensures) at (c .if1 .taken))))
+    let d = c .before .is-digit in
+    sym (after-loop .loop .inv .1 ∙ digits-step s i (after-loop-test .loop-test .taken) ∙ rw (← d .ensures, not-true (d .result) (c .if1 .taken)))
 
 loop-again : tie.Need-loop-again Inv-loop μ-loop
 loop-again c =
@@ -32,7 +34,8 @@ loop-again c =
     let start = after-loop .before .before in
     let s = now (start .args .s) in
     let i = after-loop .loop .i in
-    (omega arith, after-loop .loop .inv .1 ∙ digits-step s i (after-loop-test .loop-test .taken) ∙ rw (digit-told _ (rw (c .before .digit-value .ensures) at (c .if1 .left))))
+    let d = c .before .is-digit in
+    (omega arith, after-loop .loop .inv .1 ∙ digits-step s i (after-loop-test .loop-test .taken) ∙ rw (← d .ensures, not-false (d .result) (c .if1 .left)))
 
 pub all-digits-spec : {M : Type 1} → statement M
 all-digits-spec =
