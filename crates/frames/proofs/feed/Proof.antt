@@ -1,4 +1,4 @@
--- The bytes before `at` are taken, and each step takes at least one.
+-- The bytes before `at` are taken and what they print is written, and each step takes at least one.
 use mathlib.Core.Path.{_≡_, refl, sym, ap, _∙_}
 use mathlib.Core.List.{List}
 use Prim.Native.Nat.{ℕ, _+_, _-_, _≤_, _<_}
@@ -38,7 +38,7 @@ module _ (s : List ℕ) (at : ℕ) (h : at < length s) (from : State) (d : List 
 
 loop-less : tie.Need-loop-less Inv-loop μ-loop
 loop-less c =
-    let after-take-bytes = c .before .before .before .before .before .before .before in
+    let after-take-bytes = c .before .before .before .before .before .before .before .before in
     let after-loop-test = after-take-bytes .before .before .before .before in
     let after-loop = after-loop-test .before in
     let start = after-loop .before .before .before .before in
@@ -50,7 +50,7 @@ loop-less c =
 
 loop-again : tie.Need-loop-again Inv-loop μ-loop
 loop-again c =
-    let after-take-bytes = c .before .before .before .before .before .before .before in
+    let after-take-bytes = c .before .before .before .before .before .before .before .before in
     let after-loop-test = after-take-bytes .before .before .before .before in
     let after-loop = after-loop-test .before in
     let start = after-loop .before .before .before .before in
@@ -62,14 +62,14 @@ loop-again c =
 
 add-at : tie.Need-add-at Inv-loop μ-loop
 add-at c =
-    let after-take-bytes = c .before .before .before .before .before .before .before in
+    let after-take-bytes = c .before .before .before .before .before .before .before .before in
     let after-loop-test = after-take-bytes .before .before .before .before in
     let after-loop = after-loop-test .before in
     let s = after-loop .before .before .before .before in
     omega (arith, inside (now (s .args .input)) (after-loop .loop .at) (after-loop-test .loop-test .taken) _ _ _ _ _ _ (after-take-bytes .take-bytes .ensures))
 
-returns : tie.Need-returns Inv-loop μ-loop
-returns c =
+returns-2 : tie.Need-returns-2 Inv-loop μ-loop
+returns-2 c e =
     let s = c .before .before .before .before .before in
     c .before .loop .inv .5 ∙ ap (after _) (take-all (c .before .loop .at) (now (s .args .input)) (search needs))
 
@@ -88,9 +88,12 @@ feed-spec =
     (λ c. used-within _ _ _ _ _ _ _ (c .before .before .before .before .take-bytes .ensures))
     (λ c. let z = c .before .before .before .before .before .take-bytes .ensures in sym (length-take-le _ _ (used-within _ _ _ _ _ _ _ z)))
     (λ c κs. search needs)
+    (λ c. search needs)
+    (λ c. search needs)
+    (λ c e. absurd (let z : _≡_ {A = ℕ} 0 1 = cc in omega arith))
     add-at
     loop-less
     loop-again
     (λ c. search needs)
     (λ c. search needs)
-    returns)
+    returns-2)
