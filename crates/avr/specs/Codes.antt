@@ -11,6 +11,7 @@ use Rattle.avr.specs.declared.OpcodeNumber.{OpcodeNumber}
 abbrev pub sregs : List SREGBit
 sregs = C ∷ Z ∷ N ∷ «V» ∷ S ∷ H ∷ T ∷ I ∷ []
 
+-- above 7 there is no bit, and the answer is C
 unfoldable pub sregOf : ℕ → SREGBit
 sregOf n = getD sregs n C
 
@@ -122,5 +123,6 @@ opcodes s =
     op.RJMP ∷ op.ROR ∷ op.SBC ∷ op.SBCI ∷ op.SBI ∷ op.SBIC ∷ op.SBIS ∷ op.SBIW ∷ op.SBRC ∷ op.SBRS ∷ op.SLEEP ∷
     op.SPM ∷ op.ST ∷ op.STD ∷ op.STS ∷ op.SUB ∷ op.SUBI ∷ op.SWAP ∷ op.WDR ∷ op.XCH ∷ []
 
+-- above 77 there is no opcode, and the answer is ADC
 unfoldable pub opcodeOf : ℕ → SREGBit → Opcode
 opcodeOf k s = getD (opcodes s) k op.ADC

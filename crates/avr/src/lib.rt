@@ -237,6 +237,7 @@ pub struct Numbers {
     pub length: u8,
 }
 
+// The SREG bit of a number; above 7 it is C.
 pub fn sreg_of(n: u8) -> SREGBit
     ensures { λ r. ⌜ r ≡ sregOf n ⌝ }
 {
@@ -268,7 +269,7 @@ pub fn sreg_number(s: SREGBit) -> u8
     }
 }
 
-// The opcode of a code, with the SREG bit s where it holds one.
+// The opcode of a code, with the SREG bit s where it holds one; above 77 it is ADC.
 pub fn opcode_of(code: u8, s: SREGBit) -> Opcode
     ensures { λ r. ⌜ r ≡ opcodeOf code s ⌝ }
 {

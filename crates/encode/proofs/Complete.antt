@@ -78,12 +78,12 @@ module _ (flag : Bool) (w i : ℕ) (h : i < 103) (p : i ≡ place rows flag w) w
   nonzero : rowLeavesQ r ≡ true → field 113 cs w ≡ 0 → ⊥
   unfolding accepts
   nonzero d z =
-      let s = rowAt (i - 4) in
+      let s = rowAt (i - 1) in
       let b = both (forAny (s .targets)) (alike (zeroed cs) (symbols (s .pattern))) in
-      let t = both-true (leb 4 i) b (either-use (rowLeavesQ r) (zeroBefore i) d (below-at 103 (λ k. either (not (rowLeavesQ (rowAt k))) (zeroBefore k)) zeros-before i h)) in
+      let t = both-true (leb 1 i) b (either-use (rowLeavesQ r) (zeroBefore i) d (below-at 103 (λ k. either (not (rowLeavesQ (rowAt k))) (zeroBefore k)) zeros-before i h)) in
       let u = both-true (forAny (s .targets)) (alike (zeroed cs) (symbols (s .pattern))) (t .1) in
-      let l = leb-true 4 i (t .0) in
-      earlier (i - 4) (omega arith)
+      let l = leb-true 1 i (t .0) in
+      earlier (i - 1) (omega arith)
       (ap₂ both (ap (λ (v : List ℕ). fits v w) (sym (alike-eq (zeroed cs) (symbols (s .pattern)) (u .1))) ∙ zero-fits cs w (fitting .0) z)
       (any-has (s .targets) flag (u .0)))
 

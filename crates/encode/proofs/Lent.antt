@@ -7,11 +7,10 @@ use lib.ListN.{getD}
 use borrow.Author.Tests.{le-leb, lt-leb}
 use Rattle.avr.specs.declared.Numbers.{Numbers}
 use Rattle.manual.specs.Choice.{pick}
+use Rattle.manual.specs.Answers.{noSuchRecord}
 use Rattle.manual.specs.Encode.{seat, wordFor, extraFor}
 use Rattle.rows.specs.Columns.{formList, valueList, targetList, rowAt}
-use Rattle.encode.specs.declared.Seat.{Seat}
-use Rattle.encode.specs.declared.Seat.the-variants as seats
-use Rattle.encode.specs.Search.{suitList, formSuits, formWord, formExtra, seatOf}
+use Rattle.encode.specs.Search.{suitList, formSuits, formWord, formExtra, atRow, seatOf}
 use Rattle.encode.proofs.Suits.{Suits}
 use Rattle.encode.proofs.Search.{suits-by-form, word-by-form, extra-by-form, form-in, target-in, value-in, suits-in}
 use Rattle.encode.proofs.Seats.{seat-suits, word-lt, seat-extra-lt}
@@ -38,16 +37,16 @@ module _ (fs : List ℕ) (ef : fs ≡ formList) (i : ℕ) (h : i < 103) (x : Num
       subst (λ (k : ℕ). k < 65536) (sym extra-lent) (seat-extra-lt i h x flag t)
 
 module _ (flag : Bool) (x : Numbers) (i : ℕ) (e : i ≡ seat flag x) where
-  pub nowhere : 103 ≤ i → seats.None ≡ seatOf flag x
+  pub nowhere : 103 ≤ i → noSuchRecord ≡ seatOf flag x
   unfolding seatOf
   nowhere h =
       let s = seat flag x in
-      sym (ap (λ (v : Bool). pick v seats.None (seats.Row s (wordFor (rowAt s) x) (extraFor (rowAt s) x))) (le-leb 103 s (subst (λ (k : ℕ). 103 ≤ k) e h)))
+      sym (ap (λ (v : Bool). pick v noSuchRecord (atRow s (wordFor (rowAt s) x) (extraFor (rowAt s) x))) (le-leb 103 s (subst (λ (k : ℕ). 103 ≤ k) e h)))
 
-  pub somewhere : i < 103 → (w v : ℕ) → w ≡ wordFor (rowAt i) x → v ≡ extraFor (rowAt i) x → seats.Row i w v ≡ seatOf flag x
+  pub somewhere : i < 103 → (w v : ℕ) → w ≡ wordFor (rowAt i) x → v ≡ extraFor (rowAt i) x → atRow i w v ≡ seatOf flag x
   unfolding seatOf
   somewhere h w v p q =
       let s = seat flag x in
-      ap₂ (seats.Row i) p q
-      ∙ ap (λ (k : ℕ). seats.Row k (wordFor (rowAt k) x) (extraFor (rowAt k) x)) e
-      ∙ sym (ap (λ (b : Bool). pick b seats.None (seats.Row s (wordFor (rowAt s) x) (extraFor (rowAt s) x))) (lt-leb 103 s (subst (λ (k : ℕ). k < 103) e h)))
+      ap₂ (atRow i) p q
+      ∙ ap (λ (k : ℕ). atRow k (wordFor (rowAt k) x) (extraFor (rowAt k) x)) e
+      ∙ sym (ap (λ (b : Bool). pick b noSuchRecord (atRow s (wordFor (rowAt s) x) (extraFor (rowAt s) x))) (lt-leb 103 s (subst (λ (k : ℕ). k < 103) e h)))

@@ -17,9 +17,7 @@ use Rattle.manual.specs.Numbers.{numbersOf}
 use Rattle.manual.specs.Encode.{seat, wordFor, extraFor, wordBytes, rowBytes, atSeat, encodes}
 use Rattle.rows.specs.Columns.{rowAt}
 use Rattle.rows.proofs.Table.{row-count}
-use Rattle.encode.specs.declared.Seat.{Seat}
-use Rattle.encode.specs.declared.Seat.the-variants as seats
-use Rattle.encode.specs.Search.{seatOf}
+use Rattle.encode.specs.Search.{atRow, seatOf}
 use Rattle.encode.proofs.Suits.{Suits}
 use Rattle.encode.proofs.Right.{same-record, place-is}
 use Rattle.encode.proofs.Seats.{seat-suits}
@@ -54,11 +52,11 @@ module _ (flag : Bool) (x : Instruction) where
             ∙ ap (λ (k : ℕ). gives (rowBytes k (wordFor (rowAt s) n) (extraFor (rowAt s) n))) (t .bytes);
       }
 
-  pub seated : (i w e : ℕ) → seatOf flag n ≡ seats.Row i w e → Seated flag x i w e
+  pub seated : (i w e : ℕ) → seatOf flag n ≡ atRow i w e → Seated flag x i w e
   unfolding seatOf
   seated i w e q = go (leb 103 s) refl q
     where
-      go : (v : Bool) → leb 103 s ≡ v → pick v seats.None (seats.Row s (wordFor (rowAt s) n) (extraFor (rowAt s) n)) ≡ seats.Row i w e → Seated flag x i w e
+      go : (v : Bool) → leb 103 s ≡ v → pick v noSuchRecord (atRow s (wordFor (rowAt s) n) (extraFor (rowAt s) n)) ≡ atRow i w e → Seated flag x i w e
       go true t q = let z : _≡_ {A = ℕ} 0 1 = cc in absurd (let y : ⊥ = omega arith in y)
       go false t q =
           let a : s ≡ i = cc in
@@ -67,18 +65,18 @@ module _ (flag : Bool) (x : Instruction) where
           subst (λ (k : ℕ). Seated flag x i w k) c (subst (λ (k : ℕ). Seated flag x i k (extraFor (rowAt s) n)) b
           (subst (λ (k : ℕ). Seated flag x k (wordFor (rowAt s) n) (extraFor (rowAt s) n)) a (at-row (leb-false 103 s t))))
 
-  pub unseated : seatOf flag n ≡ seats.None → encodes flag x ≡ noSuchRecord
+  pub unseated : seatOf flag n ≡ noSuchRecord → encodes flag x ≡ noSuchRecord
   unfolding seatOf encodes
   unseated q = go (leb 103 s) refl q
     where
-      go : (v : Bool) → leb 103 s ≡ v → pick v seats.None (seats.Row s (wordFor (rowAt s) n) (extraFor (rowAt s) n)) ≡ seats.None → encodes flag x ≡ noSuchRecord
+      go : (v : Bool) → leb 103 s ≡ v → pick v noSuchRecord (atRow s (wordFor (rowAt s) n) (extraFor (rowAt s) n)) ≡ noSuchRecord → encodes flag x ≡ noSuchRecord
       go true t q =
           let l = leb-true 103 s t in
           ap (λ (v : Bool). pick v noSuchRecord (gives (rowBytes (rowAt s .bytes) (wordFor (rowAt s) n) (extraFor (rowAt s) n)))) (le-leb (length rows) s (rw row-count l))
       go false t q = let z : _≡_ {A = ℕ} 0 1 = cc in absurd (let y : ⊥ = omega arith in y)
 
-  pub seated-two : (i w e : ℕ) → seatOf flag n ≡ seats.Row i w e → x .length ≡ 2 → gives (wordBytes w []) ≡ encodes flag x
+  pub seated-two : (i w e : ℕ) → seatOf flag n ≡ atRow i w e → x .length ≡ 2 → gives (wordBytes w []) ≡ encodes flag x
   seated-two i w e q l = sym (seated i w e q .encoded ∙ ap (λ (v : Bool). gives (wordBytes w (pick v [] (wordBytes e [])))) (eq-eqb (x .length) 2 l))
 
-  pub seated-four : (i w e : ℕ) → seatOf flag n ≡ seats.Row i w e → (x .length ≡ 2 → ⊥) → gives (wordBytes w (wordBytes e [])) ≡ encodes flag x
+  pub seated-four : (i w e : ℕ) → seatOf flag n ≡ atRow i w e → (x .length ≡ 2 → ⊥) → gives (wordBytes w (wordBytes e [])) ≡ encodes flag x
   seated-four i w e q l = sym (seated i w e q .encoded ∙ ap (λ (v : Bool). gives (wordBytes w (pick v [] (wordBytes e [])))) (ne-eqb (x .length) 2 l))

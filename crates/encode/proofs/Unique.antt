@@ -10,7 +10,8 @@ use Rattle.manual.specs.Answers.{ofEncoded, isGiven}
 use Rattle.manual.specs.Numbers.{numbersOf}
 use Rattle.manual.specs.Encode.{encodes}
 use Rattle.encode.specs.declared.Seat.{Seat}
-use Rattle.encode.specs.Search.{seatOf}
+use Rattle.encode.specs.declared.Seat.the-variants as seats
+use Rattle.encode.specs.Search.{ofSeat, seatOf}
 
 encoded-injective : (a b : Encoded) → ofEncoded a ≡ ofEncoded b → a ≡ b
 encoded-injective (encoded.Two a b) (encoded.Two p q) e = cc
@@ -29,8 +30,14 @@ encode-unique flag x a b p q = encoded-injective a b (p ∙ sym q)
 pub is-record-unique : (flag : Bool) (x : Instruction) (a b : Bool) → a ≡ isGiven (encodes flag x) → b ≡ isGiven (encodes flag x) → a ≡ b
 is-record-unique flag x = one-answer
 
-pub row-of-unique : (flag : Bool) (x : Instruction) (a b : Seat) → a ≡ seatOf flag (numbersOf x) → b ≡ seatOf flag (numbersOf x) → a ≡ b
-row-of-unique flag x = one-answer
+seat-injective : (a b : Seat) → ofSeat a ≡ ofSeat b → a ≡ b
+seat-injective (seats.Row i w e) (seats.Row j v f) p = cc
+seat-injective (seats.Row i w e) seats.None p = cc
+seat-injective seats.None (seats.Row j v f) p = cc
+seat-injective seats.None seats.None p = cc
+
+pub row-of-unique : (flag : Bool) (x : Instruction) (a b : Seat) → ofSeat a ≡ seatOf flag (numbersOf x) → ofSeat b ≡ seatOf flag (numbersOf x) → a ≡ b
+row-of-unique flag x a b p q = seat-injective a b (p ∙ sym q)
 
 pub numbers-of-unique : (x : Instruction) (a b : Numbers) → a ≡ numbersOf x → b ≡ numbersOf x → a ≡ b
 numbers-of-unique x = one-answer

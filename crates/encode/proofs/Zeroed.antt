@@ -1,4 +1,4 @@
--- The row before: a word whose q is 0 fits the pattern that has 0 for q, which stands four rows before.
+-- The row before: a word whose q is 0 fits the pattern that has 0 for q, which stands in front of it.
 use mathlib.Core.Path.{_≡_, refl, ap₂}
 use mathlib.Core.Bool.{Bool, true, false, not}
 use mathlib.Core.List.{List, [], _∷_}
@@ -28,9 +28,9 @@ abbrev pub forAny : For → Bool
 forAny any = true
 forAny (only g) = false
 
--- four rows before one with a displacement stands the row for any target with 0 for it
+-- in front of a row with a displacement stands the row for any target with 0 for it
 abbrev pub zeroBefore : ℕ → Bool
-zeroBefore i = both (leb 4 i) (both (forAny (rowAt (i - 4) .targets)) (alike (zeroed (symbols (rowAt i .pattern))) (symbols (rowAt (i - 4) .pattern))))
+zeroBefore i = both (leb 1 i) (both (forAny (rowAt (i - 1) .targets)) (alike (zeroed (symbols (rowAt i .pattern))) (symbols (rowAt (i - 1) .pattern))))
 
 pub zeros-before : below 103 (λ i. either (not (rowLeavesQ (rowAt i))) (zeroBefore i)) ≡ true
 unfolding rows below

@@ -9,6 +9,7 @@ use Rattle.avr.specs.declared.SREGBit.the-variants.{C}
 use Rattle.avr.specs.declared.Opcode.{Opcode}
 use Rattle.avr.specs.declared.Numbers.{Numbers}
 use Rattle.manual.specs.Choice.{pick, both}
+use Rattle.manual.specs.Answers.{Answer, gives, noSuchRecord}
 use Rattle.manual.specs.Rows.{rows}
 use Rattle.manual.specs.Encode.{makes, suits, leading, seat, wordFor, extraFor}
 use Rattle.rows.specs.Columns.{codeOfName, hasCode, rowAt}
@@ -47,8 +48,16 @@ formWord f v x =
 unfoldable pub formExtra : ℕ → Numbers → ℕ
 formExtra f x = kindExtra (f / 128 % 32) (x .first .number) + kindExtra (f / 4096 % 32) (x .second .number)
 
--- the row of a record and its words
-unfoldable pub seatOf : Bool → Numbers → Seat
+-- the place of a row, its first word and its second
+abbrev pub atRow : ℕ → ℕ → ℕ → Answer (List ℕ)
+atRow i w e = gives (i ∷ w ∷ e ∷ [])
+
+abbrev pub ofSeat : Seat → Answer (List ℕ)
+ofSeat (seats.Row i w e) = atRow i w e
+ofSeat seats.None = noSuchRecord
+
+-- the row of a record and its words, or refusal 4
+unfoldable pub seatOf : Bool → Numbers → Answer (List ℕ)
 seatOf flag x =
     let i = seat flag x in
-    pick (leb 103 i) seats.None (seats.Row i (wordFor (rowAt i) x) (extraFor (rowAt i) x))
+    pick (leb 103 i) noSuchRecord (atRow i (wordFor (rowAt i) x) (extraFor (rowAt i) x))

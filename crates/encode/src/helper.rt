@@ -3,7 +3,7 @@ ghost use mathlib.Core.Path.{_≡_};
 ghost use Prim.Native.Nat.{_<_};
 ghost use Rattle.manual.specs.Encode.{seat};
 ghost use Rattle.rows.specs.Columns.{formList, valueList, targetList};
-ghost use Rattle.encode.specs.Search.{startList, startOf, formSuits, sregLaid, formWord, formExtra, seatOf};
+ghost use Rattle.encode.specs.Search.{startList, startOf, formSuits, sregLaid, formWord, formExtra, ofSeat, seatOf};
 use super::Seat;
 use super::kinds::and;
 use super::kinds::lay;
@@ -103,7 +103,7 @@ pub(crate) fn row_in(
     flag: bool,
 ) -> Seat
     requires { ⌜ (now forms ≡ formList) × (now values ≡ valueList) × (now targets ≡ targetList) × (now starts ≡ startList) ⌝ }
-    ensures { λ r. ⌜ r ≡ seatOf flag x ⌝ }
+    ensures { λ r. ⌜ ofSeat r ≡ seatOf flag x ⌝ }
 {
     let i = find(forms, targets, starts, x, flag);
     if 103 <= i {

@@ -3,7 +3,7 @@ ghost use mathlib.Core.Path.{_≡_};
 ghost use Rattle.manual.specs.Answers.{ofEncoded, isGiven};
 ghost use Rattle.manual.specs.Numbers.{numbersOf};
 ghost use Rattle.manual.specs.Encode.{encodes};
-ghost use Rattle.encode.specs.Search.{seatOf};
+ghost use Rattle.encode.specs.Search.{ofSeat, seatOf};
 use avr::Encoded;
 use avr::Instruction;
 use avr::Target;
@@ -25,9 +25,9 @@ pub enum Seat {
     None,
 }
 
-// The row of a record and its words: proofs/Seated.antt says that the words make the record again.
+// The row of a record and its words, or refusal 4: proofs/Seated.antt says that the words make the record again.
 pub fn row_of(record: Instruction, target: Target) -> Seat
-    ensures { λ r. ⌜ r ≡ seatOf (target .has_16_bit_lds_sts) (numbersOf «record») ⌝ }
+    ensures { λ r. ⌜ ofSeat r ≡ seatOf (target .has_16_bit_lds_sts) (numbersOf «record») ⌝ }
 {
     let x = numbers::numbers_of(record);
     helper::row_in(

@@ -13,18 +13,18 @@ use Rattle.manual.specs.Answers.{Answer, gives, noRoom, tooLong}
 use Rattle.manual.specs.Room.{written, filled}
 use Rattle.manual.specs.Lines.{limit, lineAt}
 use Rattle.manual.specs.Listing.{listingLine, listing}
-use Rattle.manual.specs.Lists.{inside, one, writesLine, lineLeft, lists, listLeft}
+use Rattle.manual.specs.Lists.{hasLine, one, writesLine, lineLeft, lists, listLeft}
 use Rattle.put.specs.Put.{Put}
 use Rattle.put.proofs.Puts.{put-first}
 
 -- ---- a line
 
-none-inside : (b : Bool) → both b false ≡ false
-none-inside true = refl
-none-inside false = refl
+none-there : (b : Bool) → both b false ≡ false
+none-there true = refl
+none-there false = refl
 
 module _ (flag : Bool) (image : List ℕ) (at : ℕ) (tail : Bool) (buffer : List ℕ) where
-  no-line : inside image at ≡ false → (gives [] ≡ writesLine flag image at tail buffer) × (buffer ≡ lineLeft flag image at tail buffer)
+  no-line : hasLine image at ≡ false → (gives [] ≡ writesLine flag image at tail buffer) × (buffer ≡ lineLeft flag image at tail buffer)
   unfolding writesLine lineLeft
   no-line e = (rw e, rw e)
 
@@ -32,14 +32,14 @@ module _ (flag : Bool) (image : List ℕ) (at : ℕ) (tail : Bool) (buffer : Lis
   over-long h = no-line (rw (lt-leb (length image) limit h))
 
   pub past-end : length image ≤ at → (gives [] ≡ writesLine flag image at tail buffer) × (buffer ≡ lineLeft flag image at tail buffer)
-  past-end h = no-line (rw (le-ltb at (length image) h) (none-inside (leb (length image) limit)))
+  past-end h = no-line (rw (le-ltb at (length image) h) (none-there (leb (length image) limit)))
 
   pub a-line : length image ≤ limit → at < length image → {a : Answer ℕ} {after : List ℕ}
       → (a ≡ written (listingLine at (lineAt flag image at tail)) buffer) × (after ≡ filled (listingLine at (lineAt flag image at tail)) buffer)
       → (one a ≡ writesLine flag image at tail buffer) × (after ≡ lineLeft flag image at tail buffer)
   unfolding writesLine lineLeft
   a-line short here w =
-      let e : inside image at ≡ true = rw (le-leb (length image) limit short, lt-ltb at (length image) here) in
+      let e : hasLine image at ≡ true = rw (le-leb (length image) limit short, lt-ltb at (length image) here) in
       (rw e (ap one (w .0)), rw e (w .1))
 
 -- ---- a listing

@@ -1,7 +1,7 @@
 -- The constant tables are the columns of the rows, the names and their lengths.
 use mathlib.Core.Path.{refl}
 use Rattle.manual.specs.Rows.{rows}
-use Rattle.manual.specs.Text.{names}
+use Rattle.manual.specs.Text.{mnemonic}
 use Rattle.rows.specs.Kinds.{kinds}
 use Rattle.rows.specs.Columns.{maskList, valueList, targetList, formList}
 use Rattle.text.specs.Names.{nameList, nameBytes, nameLengths}

@@ -4,6 +4,7 @@ use Prim.Native.Nat.{ℕ, zero, suc, pred, _+_}
 use mathlib.Core.Bool.{Bool, true, false}
 use mathlib.Core.List.{List, [], _∷_, map}
 use lib.Dec.{ltb, eqb}
+use lib.IntN.{ℤ, pos, negsuc}
 use lib.ListN.{length, getD, drop}
 use Rattle.avr.specs.declared.Instruction.{Instruction}
 use Rattle.avr.specs.declared.Line.{Line}
@@ -66,6 +67,11 @@ lines flag image = pick (ltb limit (length image)) [] (linesFrom flag false imag
 
 -- ---- a walk
 
+-- an offset is inside an image when it is 0 or more and below the image's length, and otherwise outside
+abbrev pub inside : List ℕ → ℤ → Bool
+inside image (pos at) = ltb at (length image)
+inside image (negsuc k) = false
+
 -- whether a walk may begin: refusal 5 over the limit
 unfoldable pub begins : List ℕ → Answer (Unit {0})
 begins image = pick (ltb limit (length image)) tooLong (gives tt)
@@ -74,7 +80,7 @@ begins image = pick (ltb limit (length image)) tooLong (gives tt)
 unfoldable pub lineAt : Bool → List ℕ → ℕ → Bool → Line
 lineAt flag image at tail =
     pick (ltb limit (length image)) line.End
-    (pick (ltb at (length image)) (pick tail (line.Byte (getD image at 0)) (headLine flag (drop at image))) line.End)
+    (pick (inside image (pos at)) (pick tail (line.Byte (getD image at 0)) (headLine flag (drop at image))) line.End)
 
 -- the state behind it: at the end the walk stays
 abbrev pub placeAfter : Bool → List ℕ → ℕ → Bool → Place

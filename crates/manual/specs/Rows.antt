@@ -1,5 +1,7 @@
--- The opcode rows of document 01, as the manual prints them, in rising order of their fixed bits. Where two rows fit one word, the
--- first one counts: so the `ld` and `st` rows of 1000 00xx stand in front of `ldd` and `std`.
+-- The opcode rows of document 01, in the manual's notation; where the Rust and the manual differ (docs/DIFFERENCES.md), document 01
+-- decides. They stand in rising order of the lowest word that a row takes: its fixed bits, with 0 for every letter. Where two have the
+-- same lowest word, the one with more fixed bits stands first; and where two rows fit a word, the first one counts. So `ld` and `st`
+-- stand in front of `ldd` and `std`, and take the words whose q is 0.
 use Prim.Native.Nat.{ℕ, suc}
 use Prim.Native.Char.{Char}
 use Prim.Native.String.{String}
@@ -86,15 +88,13 @@ rows =
     row "0110 KKKK dddd KKKK" any (plain op.ORI) (high "d") (imm "K") 2 ∷
     row "0111 KKKK dddd KKKK" any (plain op.ANDI) (high "d") (imm "K") 2 ∷
     row "1000 000d dddd 0000" any (plain op.LD) (reg "d") (index Z Unchanged) 2 ∷
-    row "1000 000d dddd 1000" any (plain op.LD) (reg "d") (index Y Unchanged) 2 ∷
-    row "1000 001d dddd 0000" any (plain op.ST) (index Z Unchanged) (reg "d") 2 ∷
-    row "1000 001d dddd 1000" any (plain op.ST) (index Y Unchanged) (reg "d") 2 ∷
     row "10q0 qq0d dddd 0qqq" (only false) (plain op.LDD) (reg "d") (disp Z "q") 2 ∷
+    row "1000 000d dddd 1000" any (plain op.LD) (reg "d") (index Y Unchanged) 2 ∷
     row "10q0 qq0d dddd 1qqq" (only false) (plain op.LDD) (reg "d") (disp Y "q") 2 ∷
+    row "1000 001d dddd 0000" any (plain op.ST) (index Z Unchanged) (reg "d") 2 ∷
     row "10q0 qq1d dddd 0qqq" (only false) (plain op.STD) (disp Z "q") (reg "d") 2 ∷
+    row "1000 001d dddd 1000" any (plain op.ST) (index Y Unchanged) (reg "d") 2 ∷
     row "10q0 qq1d dddd 1qqq" (only false) (plain op.STD) (disp Y "q") (reg "d") 2 ∷
-    row "1010 0kkk dddd kkkk" (only true) (plain op.LDS) (high "d") (abs7 "k") 2 ∷
-    row "1010 1kkk dddd kkkk" (only true) (plain op.STS) (abs7 "k") (high "d") 2 ∷
     row "1001 000d dddd 0000" any (plain op.LDS) (reg "d") word 4 ∷
     row "1001 000d dddd 0001" any (plain op.LD) (reg "d") (index Z PostIncrement) 2 ∷
     row "1001 000d dddd 0010" any (plain op.LD) (reg "d") (index Z PreDecrement) 2 ∷
@@ -154,6 +154,8 @@ rows =
     row "1001 1010 AAAA Abbb" any (plain op.SBI) (abs "A") (bit "b") 2 ∷
     row "1001 1011 AAAA Abbb" any (plain op.SBIS) (abs "A") (bit "b") 2 ∷
     row "1001 11rd dddd rrrr" any (plain op.MUL) (reg "d") (reg "r") 2 ∷
+    row "1010 0kkk dddd kkkk" (only true) (plain op.LDS) (high "d") (abs7 "k") 2 ∷
+    row "1010 1kkk dddd kkkk" (only true) (plain op.STS) (abs7 "k") (high "d") 2 ∷
     row "1011 0AAd dddd AAAA" any (plain op.IN) (reg "d") (abs "A") 2 ∷
     row "1011 1AAd dddd AAAA" any (plain op.OUT) (abs "A") (reg "d") 2 ∷
     row "1100 kkkk kkkk kkkk" any (plain op.RJMP) (rel "k") nothing 2 ∷

@@ -7,9 +7,10 @@ use mathlib.Core.Bool.{Bool, true, false}
 use mathlib.Core.List.{List, [], _∷_, _++_}
 use lib.Dec.{ltb}
 use lib.IntN.{ℤ, pos, negsuc}
-use lib.ListN.{getD}
-use Rattle.avr.specs.Codes.{codeOf, bitOf}
+use Rattle.avr.specs.declared.SREGBit.{SREGBit}
+use Rattle.avr.specs.declared.SREGBit.the-variants as sreg
 use Rattle.avr.specs.declared.Opcode.{Opcode}
+use Rattle.avr.specs.declared.Opcode.the-variants as op
 use Rattle.avr.specs.declared.IndexRegister.{IndexRegister}
 use Rattle.avr.specs.declared.IndexRegister.the-variants.{X, Y, Z}
 use Rattle.avr.specs.declared.IndexRegisterModifier.{IndexRegisterModifier}
@@ -51,30 +52,116 @@ hexadecimal n = digits 16 8 n
 
 -- ---- mnemonics
 
-abbrev pub one : String → List String
-one s = s ∷ []
+-- an SREG bit's letter, as it stands after `cl` or `se`, and the branches on a bit
+abbrev pub sregLetter : SREGBit → ℕ
+sregLetter sreg.C = code "c"
+sregLetter sreg.Z = code "z"
+sregLetter sreg.N = code "n"
+sregLetter sreg.«V» = code "v"
+sregLetter sreg.S = code "s"
+sregLetter sreg.H = code "h"
+sregLetter sreg.T = code "t"
+sregLetter sreg.I = code "i"
 
--- by the opcode's code, and of those that hold an SREG bit by the bit's number
-unfoldable pub names : List (List String)
-names =
-    one "adc" ∷ one "add" ∷ one "adiw" ∷ one "and" ∷ one "andi" ∷ one "asr" ∷
-    ("clc" ∷ "clz" ∷ "cln" ∷ "clv" ∷ "cls" ∷ "clh" ∷ "clt" ∷ "cli" ∷ []) ∷
-    one "bld" ∷
-    ("brsh" ∷ "brne" ∷ "brpl" ∷ "brvc" ∷ "brge" ∷ "brhc" ∷ "brtc" ∷ "brid" ∷ []) ∷
-    ("brlo" ∷ "breq" ∷ "brmi" ∷ "brvs" ∷ "brlt" ∷ "brhs" ∷ "brts" ∷ "brie" ∷ []) ∷
-    one "break" ∷
-    ("sec" ∷ "sez" ∷ "sen" ∷ "sev" ∷ "ses" ∷ "seh" ∷ "set" ∷ "sei" ∷ []) ∷
-    one "bst" ∷ one "call" ∷ one "cbi" ∷ one "com" ∷ one "cp" ∷ one "cpc" ∷ one "cpi" ∷ one "cpse" ∷ one "dec" ∷
-    one "des" ∷ one "eicall" ∷ one "eijmp" ∷ one "elpm" ∷ one "eor" ∷ one "fmul" ∷ one "fmuls" ∷ one "fmulsu" ∷
-    one "icall" ∷ one "ijmp" ∷ one "in" ∷ one "inc" ∷ one "jmp" ∷ one "lac" ∷ one "las" ∷ one "lat" ∷ one "ld" ∷
-    one "ldd" ∷ one "ldi" ∷ one "lds" ∷ one "lpm" ∷ one "lsr" ∷ one "mov" ∷ one "movw" ∷ one "mul" ∷ one "muls" ∷
-    one "mulsu" ∷ one "neg" ∷ one "nop" ∷ one "or" ∷ one "ori" ∷ one "out" ∷ one "pop" ∷ one "push" ∷ one "rcall" ∷
-    one "ret" ∷ one "reti" ∷ one "rjmp" ∷ one "ror" ∷ one "sbc" ∷ one "sbci" ∷ one "sbi" ∷ one "sbic" ∷ one "sbis" ∷
-    one "sbiw" ∷ one "sbrc" ∷ one "sbrs" ∷ one "sleep" ∷ one "spm" ∷ one "st" ∷ one "std" ∷ one "sts" ∷ one "sub" ∷
-    one "subi" ∷ one "swap" ∷ one "wdr" ∷ one "xch" ∷ []
+abbrev pub branchIfClear : SREGBit → String
+branchIfClear sreg.C = "brsh"
+branchIfClear sreg.Z = "brne"
+branchIfClear sreg.N = "brpl"
+branchIfClear sreg.«V» = "brvc"
+branchIfClear sreg.S = "brge"
+branchIfClear sreg.H = "brhc"
+branchIfClear sreg.T = "brtc"
+branchIfClear sreg.I = "brid"
+
+abbrev pub branchIfSet : SREGBit → String
+branchIfSet sreg.C = "brlo"
+branchIfSet sreg.Z = "breq"
+branchIfSet sreg.N = "brmi"
+branchIfSet sreg.«V» = "brvs"
+branchIfSet sreg.S = "brlt"
+branchIfSet sreg.H = "brhs"
+branchIfSet sreg.T = "brts"
+branchIfSet sreg.I = "brie"
 
 unfoldable pub mnemonic : Opcode → List ℕ
-mnemonic o = chars (getD (getD names (codeOf o) []) (bitOf o) "")
+mnemonic op.ADC = chars "adc"
+mnemonic op.ADD = chars "add"
+mnemonic op.ADIW = chars "adiw"
+mnemonic op.AND = chars "and"
+mnemonic op.ANDI = chars "andi"
+mnemonic op.ASR = chars "asr"
+mnemonic (op.BCLR s) = chars "cl" ++ (sregLetter s ∷ [])
+mnemonic op.BLD = chars "bld"
+mnemonic (op.BRBC s) = chars (branchIfClear s)
+mnemonic (op.BRBS s) = chars (branchIfSet s)
+mnemonic op.BREAK = chars "break"
+mnemonic (op.BSET s) = chars "se" ++ (sregLetter s ∷ [])
+mnemonic op.BST = chars "bst"
+mnemonic op.CALL = chars "call"
+mnemonic op.CBI = chars "cbi"
+mnemonic op.COM = chars "com"
+mnemonic op.CP = chars "cp"
+mnemonic op.CPC = chars "cpc"
+mnemonic op.CPI = chars "cpi"
+mnemonic op.CPSE = chars "cpse"
+mnemonic op.DEC = chars "dec"
+mnemonic op.DES = chars "des"
+mnemonic op.EICALL = chars "eicall"
+mnemonic op.EIJMP = chars "eijmp"
+mnemonic op.ELPM = chars "elpm"
+mnemonic op.EOR = chars "eor"
+mnemonic op.FMUL = chars "fmul"
+mnemonic op.FMULS = chars "fmuls"
+mnemonic op.FMULSU = chars "fmulsu"
+mnemonic op.ICALL = chars "icall"
+mnemonic op.IJMP = chars "ijmp"
+mnemonic op.IN = chars "in"
+mnemonic op.INC = chars "inc"
+mnemonic op.JMP = chars "jmp"
+mnemonic op.LAC = chars "lac"
+mnemonic op.LAS = chars "las"
+mnemonic op.LAT = chars "lat"
+mnemonic op.LD = chars "ld"
+mnemonic op.LDD = chars "ldd"
+mnemonic op.LDI = chars "ldi"
+mnemonic op.LDS = chars "lds"
+mnemonic op.LPM = chars "lpm"
+mnemonic op.LSR = chars "lsr"
+mnemonic op.MOV = chars "mov"
+mnemonic op.MOVW = chars "movw"
+mnemonic op.MUL = chars "mul"
+mnemonic op.MULS = chars "muls"
+mnemonic op.MULSU = chars "mulsu"
+mnemonic op.NEG = chars "neg"
+mnemonic op.NOP = chars "nop"
+mnemonic op.OR = chars "or"
+mnemonic op.ORI = chars "ori"
+mnemonic op.OUT = chars "out"
+mnemonic op.POP = chars "pop"
+mnemonic op.PUSH = chars "push"
+mnemonic op.RCALL = chars "rcall"
+mnemonic op.RET = chars "ret"
+mnemonic op.RETI = chars "reti"
+mnemonic op.RJMP = chars "rjmp"
+mnemonic op.ROR = chars "ror"
+mnemonic op.SBC = chars "sbc"
+mnemonic op.SBCI = chars "sbci"
+mnemonic op.SBI = chars "sbi"
+mnemonic op.SBIC = chars "sbic"
+mnemonic op.SBIS = chars "sbis"
+mnemonic op.SBIW = chars "sbiw"
+mnemonic op.SBRC = chars "sbrc"
+mnemonic op.SBRS = chars "sbrs"
+mnemonic op.SLEEP = chars "sleep"
+mnemonic op.SPM = chars "spm"
+mnemonic op.ST = chars "st"
+mnemonic op.STD = chars "std"
+mnemonic op.STS = chars "sts"
+mnemonic op.SUB = chars "sub"
+mnemonic op.SUBI = chars "subi"
+mnemonic op.SWAP = chars "swap"
+mnemonic op.WDR = chars "wdr"
+mnemonic op.XCH = chars "xch"
 
 -- ---- operands
 

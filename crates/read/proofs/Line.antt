@@ -15,7 +15,7 @@ use Rattle.manual.specs.Rows as arg
 use Rattle.manual.specs.Rows.{Arg, Row, rows}
 use Rattle.manual.specs.Operands.{mapArg, argument}
 use Rattle.manual.specs.Decode.{nameOf, rowInstruction}
-use Rattle.manual.specs.Text.{names, mnemonic, isNothing, textOf}
+use Rattle.manual.specs.Text.{mnemonic, isNothing, textOf}
 use Rattle.rows.specs.Columns.{rowAt}
 use Rattle.rows.proofs.Table.{agree, constant}
 use Rattle.text.specs.Names.{nameList}
@@ -72,7 +72,7 @@ orderTest r = either (not (empty (r .first))) (empty (r .second))
 
 module _ (i : ℕ) (h : i < 103) where
   row-tests : (s : SREGBit) → rowTest s (rowAt i) ≡ true
-  unfolding rows rowTest firstTest secondTest blankTest numberFor spells numberAs names nameList mnemonic
+  unfolding rows rowTest firstTest secondTest blankTest numberFor spells numberAs nameList mnemonic
   row-tests C = constant false i h (rowTest C) true refl
   row-tests Z = constant false i h (rowTest Z) true refl
   row-tests N = constant false i h (rowTest N) true refl
@@ -83,7 +83,7 @@ module _ (i : ℕ) (h : i < 103) where
   row-tests I = constant false i h (rowTest I) true refl
 
   opcode-back : (s : SREGBit) → opcodeFrom (numberFor s (rowAt i)) ≡ nameOf (rowAt i .name) s
-  unfolding rows numberFor numberAs names nameList mnemonic opcodeFrom opcodeOf sregOf
+  unfolding rows numberFor numberAs nameList mnemonic opcodeFrom opcodeOf sregOf
   opcode-back C = agree NOP i h (λ r. opcodeFrom (numberFor C r)) (λ r. nameOf (r .name) C) refl
   opcode-back Z = agree NOP i h (λ r. opcodeFrom (numberFor Z r)) (λ r. nameOf (r .name) Z) refl
   opcode-back N = agree NOP i h (λ r. opcodeFrom (numberFor N r)) (λ r. nameOf (r .name) N) refl

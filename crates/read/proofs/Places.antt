@@ -6,13 +6,13 @@ use Prim.Native.Nat.{ℕ, suc, _+_, _≤_, _<_}
 use native.Mathlib.Numerals.{add-one}
 use lib.ListN.{length, drop, drop-of-length-le}
 use lib.Seq.{drop-cons}
-use Rattle.manual.specs.Text.{names}
+use Rattle.manual.specs.Text.{mnemonic}
 use Rattle.cut.specs.Cut.{same}
 use Rattle.text.specs.Names.{nameList, nameAt}
 use Rattle.read.specs.Line.{placeOf}
 
 pub name-count : length nameList ≡ 110
-unfolding names nameList
+unfolding mnemonic nameList
 name-count = refl
 
 module _ (s : List ℕ) (i : ℕ) where

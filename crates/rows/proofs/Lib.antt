@@ -7,3 +7,4 @@ pub mod Apart
 pub mod Words
 pub mod Count
 pub mod Unique
+pub mod Order

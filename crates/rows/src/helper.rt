@@ -1,12 +1,21 @@
 // The search for a row over lent tables: for this project's own crates, which meet what it requires.
 ghost use mathlib.Core.Path.{_≡_};
-ghost use Prim.Native.Nat.{_≤_, min};
+ghost use Prim.Native.Nat.{_≤_, _<_, min};
 ghost use lib.Dec.{eqb};
 ghost use lib.Bits.{bitAnd};
 ghost use Rattle.manual.specs.Choice.{pick, both};
 ghost use Rattle.manual.specs.Rows.{rows, place};
-ghost use Rattle.rows.specs.Columns.{hasCode, maskList, valueList, targetList};
+ghost use Rattle.rows.specs.Columns.{hasCode, maskList, valueList, targetList, formAt};
 ghost use Rattle.rows.specs.Fits.{firstFit};
+use super::tables::FORMS;
+
+// The form of a row: its opcode and operands in one number.
+pub fn form_of(i: usize) -> u32
+    requires { ⌜ i < 103 ⌝ }
+    ensures { λ r. ⌜ r ≡ formAt i ⌝ }
+{
+    FORMS[i]
+}
 
 // A target has a row of this code.
 pub fn has_target(t: u8, flag: bool) -> bool

@@ -1,4 +1,6 @@
-// Lists short images, most of which end in odd ways, and says what it tried. Its stored output was worked out by hand from document 01.
+// Lists short images, most of which end in odd ways, decodes their first bytes, and says what it tried. Its stored output was worked
+// out by hand from document 01.
+use avr::Decoded;
 use avr::LineWritten;
 use avr::Listed;
 use avr::Target;
@@ -88,6 +90,40 @@ fn show_line(image: &[u8], at: usize, tail: bool, text: &mut [u8]) {
     io::write_all(STDOUT_FILENO, b"\n");
 }
 
+// What decoding the first bytes answers, a refusal with its number and its value.
+fn show_answer(image: &[u8], flag: bool) {
+    print_target(flag);
+    print_bytes(image);
+    let target = Target {
+        has_16_bit_lds_sts: flag,
+    };
+    let decoded = decode::decode(image, target);
+    match decoded {
+        Decoded::Instruction(x) => {
+            io::write_all(STDOUT_FILENO, b": an instruction of ");
+            io::print_decimal(STDOUT_FILENO, x.length as u64);
+            io::write_all(STDOUT_FILENO, b" bytes\n");
+        }
+        Decoded::InvalidOpcode(w) => {
+            let mut word = [0u8; 4];
+            put::put_hex4(&mut word, 0, w);
+            io::write_all(STDOUT_FILENO, b": refusal 1, word ");
+            io::write_all(STDOUT_FILENO, &word);
+            io::write_all(STDOUT_FILENO, b"\n");
+        }
+        Decoded::Short(n) => {
+            io::write_all(STDOUT_FILENO, b": refusal 2, ");
+            io::print_decimal(STDOUT_FILENO, n as u64);
+            io::write_all(STDOUT_FILENO, b" bytes needed\n");
+        }
+    }
+}
+
+fn answer_both(image: &[u8]) {
+    show_answer(image, false);
+    show_answer(image, true);
+}
+
 fn show_tails() {
     // no byte, one, and two that are the first half of a call
     show_both(b"");
@@ -121,8 +157,20 @@ fn show_lines() {
     show_line(b"\0\0\xFF\x01\x0E", 0, false, &mut short);
 }
 
+fn show_answers() {
+    io::write_all(STDOUT_FILENO, b"the first bytes decoded:\n");
+    answer_both(b"");
+    answer_both(b"\x0E");
+    answer_both(b"\x0E\x94");
+    answer_both(b"\x0E\x94\x34");
+    answer_both(b"\x0E\x94\x34\x12");
+    answer_both(b"\x03\x90");
+    answer_both(b"\x09\x80");
+}
+
 fn main() {
     show_tails();
     show_targets();
     show_lines();
+    show_answers();
 }

@@ -1,6 +1,7 @@
--- What the lines of an image are: they take all its bytes, each comes from its own offset, and `.byte` lines are last.
+-- What the lines of an image are: they take all its bytes, each comes from its own offset, and `.byte` lines are last, from where
+-- decoding is refused for want of bytes.
 use mathlib.Core.Path.{_≡_, refl, sym, ap, _∙_}
-use mathlib.Core.Bool.{Bool, true, false}
+use mathlib.Core.Bool.{Bool, true, false, true≢false}
 use mathlib.Core.List.{List, [], _∷_}
 use Prim.Native.Nat.{ℕ, _+_, _≤_, _<_}
 use native.Mathlib.Omega.{arith}
@@ -8,11 +9,12 @@ use lib.ListN.{length, drop, length-drop}
 use lib.Seq.{drop-drop}
 use borrow.Author.Tests.{lt-ltb}
 use Rattle.avr.specs.declared.Line.{Line}
+use Rattle.manual.specs.Answers.{short}
 use Rattle.manual.specs.Decode.{decodes}
 use Rattle.manual.specs.Lines.{limit, lineOf, lengthOf, isByte, tailAfter, headLine, linesFrom, lines, begunBefore, countBefore}
 use Rattle.manual.specs.Listing.{placed}
 use Rattle.decode.proofs.Laws.{cases}
-use Rattle.walk.specs.Taking.{total, Every, Comes, BytesLast}
+use Rattle.walk.specs.Taking.{total, Every, Comes, BytesLast, BytesWhereShort}
 use Rattle.walk.proofs.Along.{lineHere, takes, unroll, along, none-left}
 use Rattle.walk.proofs.At.{lines-within}
 
@@ -82,3 +84,25 @@ after-a-byte-only-bytes flag image h =
     rw (unroll flag tail b bs)
     (((λ e. ih .1 (yes l tail e)), ih .0), λ e. let y = in-tail flag tail b bs e in (y, ih .1 (yes l tail y))))
     false image .0)
+
+-- ---- where the tail begins
+
+short-at : (flag tail : Bool) (b : ℕ) (bs : List ℕ) → tail ≡ false → isByte (lineHere flag tail (b ∷ bs)) ≡ true
+    → (n : ℕ) × (decodes flag (b ∷ bs) ≡ short n)
+short-at flag true b bs f = absurd (true≢false f)
+short-at flag false b bs f =
+    cases flag (b ∷ bs) (λ a. decodes flag (b ∷ bs) ≡ a → isByte (lineOf a b) ≡ true → (n : ℕ) × (decodes flag (b ∷ bs) ≡ short n))
+    (λ x w e t. absurd (true≢false (sym t)))
+    (λ two e t. absurd (true≢false (sym t))) (λ n h e t. (n, e)) refl
+
+no : (l : Line) (tail : Bool) → tail ≡ false → isByte l ≡ false → tailAfter l tail ≡ false
+no l tail f e = rw (e, f)
+
+-- a walk does not turn to `.byte` lines before decoding is refused for want of bytes
+pub bytes-only-where-short : (flag : Bool) (image : List ℕ) → length image ≤ limit → BytesWhereShort flag image (lines flag image)
+bytes-only-where-short flag image h =
+    rw (lines-within flag image h)
+    (along flag (λ tail bs. tail ≡ false → BytesWhereShort flag bs (linesFrom flag tail bs))
+    (λ tail f. rw (none-left flag tail) tt)
+    (λ tail b bs ih f. rw (unroll flag tail b bs) (short-at flag tail b bs f, λ e. ih (no (lineHere flag tail (b ∷ bs)) tail f e)))
+    false image refl)

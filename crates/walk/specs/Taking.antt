@@ -3,12 +3,12 @@ use Prim.Native.Nat.{ℕ, zero, suc, _+_}
 use mathlib.Core.Path.{_≡_}
 use mathlib.Core.Bool.{Bool, true, false}
 use mathlib.Core.List.{List, [], _∷_}
-use lib.ListN.{getD}
+use lib.ListN.{getD, drop}
 use Rattle.avr.specs.declared.Line.{Line}
 use Rattle.avr.specs.declared.Line.the-variants as line
 use Rattle.avr.specs.declared.Place.{Place}
 use Rattle.manual.specs.Choice.{pick}
-use Rattle.manual.specs.Answers.{gives, noSuchWord}
+use Rattle.manual.specs.Answers.{gives, noSuchWord, short}
 use Rattle.manual.specs.Decode.{decodes}
 use Rattle.manual.specs.Lines.{lengthOf, isByte, lineAt, placeAfter}
 
@@ -53,3 +53,9 @@ Comes flag bs line.End = ⊥
 abbrev pub BytesLast : List Line → Type 0
 BytesLast [] = Unit {0}
 BytesLast (l ∷ ls) = (isByte l ≡ true → Every (λ m. isByte m ≡ true) ls) × BytesLast ls
+
+-- the first `.byte` line of what is left stands where decoding is refused for want of bytes
+abbrev pub BytesWhereShort : Bool → List ℕ → List Line → Type 0
+BytesWhereShort flag bs [] = Unit {0}
+BytesWhereShort flag bs (l ∷ ls) =
+    (isByte l ≡ true → (n : ℕ) × (decodes flag bs ≡ short n)) × (isByte l ≡ false → BytesWhereShort flag (drop (lengthOf l) bs) ls)

@@ -1,5 +1,5 @@
 // The walk over an image: what stands at a state, the step past it, and the count of lines. A state is a position and whether the
-// tail has begun; every loop over an image and the reader go by these.
+// tail has begun. The reader goes by these; a listing has a loop of its own (`listing::helper`), proved to write the same lines.
 use avr::Begun;
 use avr::Decoded;
 use avr::Line;

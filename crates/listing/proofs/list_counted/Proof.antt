@@ -4,7 +4,7 @@ use native.Mathlib.Omega.{arith}
 use borrow.Author.Needs.{needs}
 use Rattle.manual.specs.Listing.{listing}
 use Rattle.manual.specs.Rows.{rows}
-use Rattle.manual.specs.Text.{names}
+use Rattle.manual.specs.Text.{mnemonic}
 use Rattle.rows.specs.Kinds.{kinds}
 use Rattle.rows.specs.Columns.{maskList, valueList, targetList, formList}
 use Rattle.text.specs.Names.{nameList, nameBytes, nameLengths}
@@ -14,7 +14,7 @@ use Rattle.listing.proofs.list_counted.Statement.{statement}
 use Rattle.listing.proofs.list_counted.Tie as tie
 
 listing-length-requires : tie.Need-listing-length-requires
-unfolding rows kinds maskList valueList targetList formList names nameList nameBytes nameLengths
+unfolding rows kinds maskList valueList targetList formList mnemonic nameList nameBytes nameLengths
 listing-length-requires c κs = (lent, search needs)
 
 returns : tie.Need-returns
@@ -23,7 +23,7 @@ returns c =
     counted-over _ _ (n .listing-length .result) (n .listing-length .ensures) (c .if1 .taken)
 
 copy-lines-requires : tie.Need-copy-lines-requires
-unfolding rows kinds maskList valueList targetList formList names nameList nameBytes nameLengths
+unfolding rows kinds maskList valueList targetList formList mnemonic nameList nameBytes nameLengths
 copy-lines-requires c κs = (lent, search needs)
 
 returns-2 : tie.Need-returns-2

@@ -4,7 +4,7 @@ use denote.Ref.{now}
 use native.Mathlib.Omega.{arith}
 use borrow.Author.Needs.{needs}
 use Rattle.manual.specs.Rows.{rows}
-use Rattle.manual.specs.Text.{names}
+use Rattle.manual.specs.Text.{mnemonic}
 use Rattle.rows.specs.Kinds.{kinds}
 use Rattle.rows.specs.Columns.{maskList, valueList, targetList, formList}
 use Rattle.text.specs.Names.{nameList, nameBytes, nameLengths}
@@ -25,7 +25,7 @@ returns-2 c =
     past-end (s .args .target .«has_16_bit_lds_sts») (now (s .args .image)) (s .args .at) (s .args .tail) (now (s .args .out)) (c .if2 .taken)
 
 put-line-requires : tie.Need-put-line-requires
-unfolding rows kinds maskList valueList targetList formList names nameList nameBytes nameLengths
+unfolding rows kinds maskList valueList targetList formList mnemonic nameList nameBytes nameLengths
 put-line-requires c κs = (lent, (omega arith, omega arith, search needs))
 
 returns-3 : tie.Need-returns-3

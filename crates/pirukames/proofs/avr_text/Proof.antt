@@ -4,7 +4,7 @@ use denote.Ref.{now}
 use native.Mathlib.Omega.{arith}
 use borrow.Author.Needs.{needs}
 use Rattle.manual.specs.Rows.{rows}
-use Rattle.manual.specs.Text.{names}
+use Rattle.manual.specs.Text.{mnemonic}
 use Rattle.rows.specs.Kinds.{kinds}
 use Rattle.rows.specs.Columns.{maskList, valueList, targetList, formList}
 use Rattle.text.specs.Names.{nameList, nameBytes, nameLengths}
@@ -18,11 +18,11 @@ use Rattle.pirukames.proofs.avr_text.Statement.{statement}
 use Rattle.pirukames.proofs.avr_text.Tie as tie
 
 find-requires : tie.Need-find-requires
-unfolding rows kinds maskList valueList targetList formList names nameList nameBytes nameLengths
+unfolding rows kinds maskList valueList targetList formList mnemonic nameList nameBytes nameLengths
 find-requires c κs = lent .tables
 
 put-row-requires : tie.Need-put-row-requires
-unfolding rows kinds maskList valueList targetList formList names nameList nameBytes nameLengths
+unfolding rows kinds maskList valueList targetList formList mnemonic nameList nameBytes nameLengths
 put-row-requires c κs =
     let f = c .before .before .before .before in
     let k = row-known (f .found3 .given .1) (f .before .before .find .ensures .1) in

@@ -3,7 +3,7 @@ use mathlib.Core.Path.{_≡_, refl, sym, _∙_}
 use Prim.Native.Nat.{_+_, _-_, _≤_}
 use native.Mathlib.Omega.{arith}
 use lib.ListN.{drop}
-use Rattle.manual.specs.Text.{names}
+use Rattle.manual.specs.Text.{mnemonic}
 use Rattle.text.specs.Names.{nameList, nameBytes, nameLengths}
 use Rattle.read.specs.Line.{placeOf, numberAs}
 use Rattle.read.proofs.Places.{place-here, place-next, place-end}
@@ -17,7 +17,7 @@ abbrev μ-loop : tie.MeasureT-loop
 μ-loop s names lengths i₀ i = 110 - i
 
 name-is-requires : tie.Need-name-is-requires Inv-loop μ-loop
-unfolding names nameList nameBytes nameLengths
+unfolding mnemonic nameList nameBytes nameLengths
 name-is-requires c κs = (refl, refl, omega arith)
 
 returns : tie.Need-returns Inv-loop μ-loop

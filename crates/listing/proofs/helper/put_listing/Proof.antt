@@ -1,7 +1,7 @@
 -- The constant tables are lent.
 use borrow.Author.Needs.{needs}
 use Rattle.manual.specs.Rows.{rows}
-use Rattle.manual.specs.Text.{names}
+use Rattle.manual.specs.Text.{mnemonic}
 use Rattle.rows.specs.Kinds.{kinds}
 use Rattle.rows.specs.Columns.{maskList, valueList, targetList, formList}
 use Rattle.text.specs.Names.{nameList, nameBytes, nameLengths}
@@ -10,7 +10,7 @@ use Rattle.listing.proofs.helper.put_listing.Statement.{statement}
 use Rattle.listing.proofs.helper.put_listing.Tie as tie
 
 put-lines-requires : tie.Need-put-lines-requires
-unfolding rows kinds maskList valueList targetList formList names nameList nameBytes nameLengths
+unfolding rows kinds maskList valueList targetList formList mnemonic nameList nameBytes nameLengths
 put-lines-requires c κs = (lent, search needs)
 
 pub put-listing-spec : {M : Type 1} → statement M
