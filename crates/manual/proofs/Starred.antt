@@ -53,9 +53,11 @@ starred =
     case (0x09 ∷ 0x80 ∷ []) true (noSuchWord 0x8009) ∷
     -- not starred, but beside 8009 it shows which row wins
     case (0x08 ∷ 0x80 ∷ []) false (prints 2 "ld r0, y") ∷
-    case (0x08 ∷ 0xF8 ∷ []) false (prints 2 "bld r0, 0") ∷
     case (0x00 ∷ 0xF8 ∷ []) false (prints 2 "bld r0, 0") ∷
+    case (0x08 ∷ 0xF8 ∷ []) false (noSuchWord 0xF808) ∷
+    case (0x08 ∷ 0xF8 ∷ []) true (noSuchWord 0xF808) ∷
     case (0x08 ∷ 0xFC ∷ []) false (noSuchWord 0xFC08) ∷
+    case (0x08 ∷ 0xFC ∷ []) true (noSuchWord 0xFC08) ∷
     case (0x00 ∷ 0xA0 ∷ []) true (prints 2 "lds r16, $80") ∷
     case (0x00 ∷ 0xA0 ∷ []) false (prints 2 "ldd r0, z+32") ∷
     case (0xFF ∷ 0x95 ∷ 0xFF ∷ 0xFF ∷ []) false (prints 4 "call $7FFFFE") ∷
