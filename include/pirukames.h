@@ -24,7 +24,7 @@ extern "C" {
 /* The text of the first instruction, without LF. Refusals 1, 2, 3. 21 bytes of room are always enough. */
 uint64_t avr_text(const uint8_t *bytes, size_t bytes_length, uint8_t flag, uint8_t *out, size_t out_length);
 
-/* The first instruction decoded and encoded again: its 2 or 4 bytes, with bit 3 of a bld or bst clear. Refusals 1, 2, 3. */
+/* The first instruction decoded and encoded again: its own 2 or 4 bytes. Refusals 1, 2, 3. */
 uint64_t avr_recode(const uint8_t *bytes, size_t bytes_length, uint8_t flag, uint8_t *out, size_t out_length);
 
 /* The listing of an image, each line ended by LF. Refusals 5, then 3. 18 bytes of room for each byte of the image are enough, and

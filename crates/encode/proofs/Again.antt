@@ -1,12 +1,11 @@
 -- Encoding the record of a string that decodes: the row is the one that decoding found, and its words are the string's.
 use mathlib.Core.Path.{_≡_, sym, ap, ap₂, _∙_, subst}
-use mathlib.Core.Bool.{Bool, true, false, not}
+use mathlib.Core.Bool.{Bool, true, not}
 use mathlib.Core.List.{List, [], _∷_}
-use Prim.Native.Nat.{ℕ, _+_, _-_, _*_, _/_, _%_, _<_, _≤_}
+use Prim.Native.Nat.{ℕ, _+_, _*_, _<_, _≤_}
 use native.Mathlib.Omega.{arith}
 use lib.ListN.{length}
 use borrow.Author.Tests.{ne-eqb, lt-leb}
-use Rattle.avr.specs.Codes.{codeOf}
 use Rattle.avr.specs.declared.Instruction.{Instruction}
 use Rattle.manual.specs.Choice.{pick}
 use Rattle.manual.specs.Answers.{gives, noSuchRecord}
@@ -16,7 +15,7 @@ use Rattle.manual.specs.Numbers.{numbersOf}
 use Rattle.manual.specs.Encode.{suits, seat, wordFor, extraFor, wordBytes, rowBytes, atSeat, encodes}
 use Rattle.rows.specs.Columns.{rowAt}
 use Rattle.rows.proofs.Table.{row-count}
-use Rattle.encode.specs.Demand.{Bytes, xRow, xClear, clearedBy}
+use Rattle.encode.specs.Demand.{Bytes}
 use Rattle.encode.proofs.Suits.{Suits, suits-parts}
 use Rattle.encode.proofs.RowFacts as facts
 use Rattle.encode.proofs.Complete.{row-suits, has-seat, fitting}
@@ -44,13 +43,11 @@ module _ (flag : Bool) (bs : List ℕ) (x : Instruction) (b : Bytes bs) (d : dec
       let n = one-row flag (numbersOf x) (f .at) (seat flag (numbersOf x)) (f .below) h found-suits (seat-suits flag (numbersOf x) h) in
       omega (arith, m, n)
 
-  pub word-is : wordFor row (numbersOf x) ≡ xClear (codeOf (x .opcode)) (wordAt bs 0)
-  unfolding numbersOf
+  pub word-is : wordFor row (numbersOf x) ≡ wordAt bs 0
   word-is =
       let w = wordAt bs 0 in
       ap (λ (y : Instruction). wordFor row (numbersOf y)) (sym (f .gives))
       ∙ word-back (f .at) (f .below) w (f .second) (f .small) (omega (arith, b 0, b 1)) (fitting flag w (f .at) (f .below) (f .place) .0)
-      ∙ ap (λ (k : ℕ). xClear k w) (found-suits .code)
 
   pub extra-is : (row .bytes ≡ 2 → ⊥) → extraFor row (numbersOf x) ≡ wordAt bs 2
   extra-is n =
@@ -65,25 +62,20 @@ module _ (flag : Bool) (bs : List ℕ) (x : Instruction) (b : Bytes bs) (d : dec
       ∙ ap (λ (v : Bool). pick v noSuchRecord (gives (rowBytes (row .bytes) (wordFor row (numbersOf x)) (extraFor row (numbersOf x)))))
       (lt-leb (length rows) (f .at) (rw row-count (f .below)))
 
-clear-low : (v : Bool) (a b : ℕ) → a < 256 → b < 256
-    → (pick v (a + b * 256 - (a + b * 256) / 8 % 2 * 8) (a + b * 256) % 256 ≡ pick v (a - a / 8 % 2 * 8) a)
-    × (pick v (a + b * 256 - (a + b * 256) / 8 % 2 * 8) (a + b * 256) / 256 ≡ b)
-clear-low true a b h k = let c : (a + b * 256) / 8 % 2 ≡ a / 8 % 2 = omega arith in rw c (omega arith, omega arith)
-clear-low false a b h k = (omega arith, omega arith)
+-- a word's bytes are those that it was read of
+bytes-back : (a c : ℕ) (bs : List ℕ) → a < 256 → c < 256 → wordBytes (a + c * 256) bs ≡ a ∷ c ∷ bs
+bytes-back a c bs h k = ap₂ (λ (p q : ℕ). p ∷ q ∷ bs) (omega arith) (omega arith)
 
-pub two-back : (k : ℕ) (bs : List ℕ) → Bytes bs → length bs ≡ 2 → wordBytes (xClear k (wordAt bs 0)) [] ≡ clearedBy k bs
-two-back k [] b l = absurd (let y : ⊥ = omega arith in y)
-two-back k (a ∷ []) b l = absurd (let y : ⊥ = omega arith in y)
-two-back k (a ∷ c ∷ []) b l = let t = clear-low (xRow k) a c (b 0) (b 1) in ap₂ (λ (p q : ℕ). p ∷ q ∷ []) (t .0) (t .1)
-two-back k (a ∷ c ∷ g ∷ bs) b l = absurd (let y : ⊥ = omega arith in y)
+pub two-back : (bs : List ℕ) → Bytes bs → length bs ≡ 2 → wordBytes (wordAt bs 0) [] ≡ bs
+two-back [] b l = absurd (let y : ⊥ = omega arith in y)
+two-back (a ∷ []) b l = absurd (let y : ⊥ = omega arith in y)
+two-back (a ∷ c ∷ []) b l = bytes-back a c [] (b 0) (b 1)
+two-back (a ∷ c ∷ g ∷ bs) b l = absurd (let y : ⊥ = omega arith in y)
 
-pub four-back : (k : ℕ) (bs : List ℕ) → Bytes bs → length bs ≡ 4 → wordBytes (xClear k (wordAt bs 0)) (wordBytes (wordAt bs 2) []) ≡ clearedBy k bs
-four-back k [] b l = absurd (let y : ⊥ = omega arith in y)
-four-back k (a ∷ []) b l = absurd (let y : ⊥ = omega arith in y)
-four-back k (a ∷ c ∷ []) b l = absurd (let y : ⊥ = omega arith in y)
-four-back k (a ∷ c ∷ g ∷ []) b l = absurd (let y : ⊥ = omega arith in y)
-four-back k (a ∷ c ∷ g ∷ j ∷ []) b l =
-    let t = clear-low (xRow k) a c (b 0) (b 1) in
-    ap₂ (λ (p q : ℕ). p ∷ q ∷ wordBytes (g + j * 256) []) (t .0) (t .1)
-    ∙ ap₂ (λ (p q : ℕ). xClear k a ∷ c ∷ p ∷ q ∷ []) (omega (arith, b 2, b 3)) (omega (arith, b 2, b 3))
-four-back k (a ∷ c ∷ g ∷ j ∷ m ∷ bs) b l = absurd (let y : ⊥ = omega arith in y)
+pub four-back : (bs : List ℕ) → Bytes bs → length bs ≡ 4 → wordBytes (wordAt bs 0) (wordBytes (wordAt bs 2) []) ≡ bs
+four-back [] b l = absurd (let y : ⊥ = omega arith in y)
+four-back (a ∷ []) b l = absurd (let y : ⊥ = omega arith in y)
+four-back (a ∷ c ∷ []) b l = absurd (let y : ⊥ = omega arith in y)
+four-back (a ∷ c ∷ g ∷ []) b l = absurd (let y : ⊥ = omega arith in y)
+four-back (a ∷ c ∷ g ∷ j ∷ []) b l = bytes-back a c (wordBytes (g + j * 256) []) (b 0) (b 1) ∙ ap (λ (t : List ℕ). a ∷ c ∷ t) (bytes-back g j [] (b 2) (b 3))
+four-back (a ∷ c ∷ g ∷ j ∷ m ∷ bs) b l = absurd (let y : ⊥ = omega arith in y)

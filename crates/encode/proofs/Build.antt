@@ -25,7 +25,7 @@ bit-lt true q n = lit< tt
 bit-lt false true n = lit< tt
 bit-lt false false n = omega arith
 
-pub free-bit : (c n : ℕ) → isFixed c ≡ false → symbolBit (eqb c 48) (eqb c 49) n ≡ n % 2
+free-bit : (c n : ℕ) → isFixed c ≡ false → symbolBit (eqb c 48) (eqb c 49) n ≡ n % 2
 free-bit c n e = let t = either-none (eqb c 48) (eqb c 49) e in ap₂ (λ (p q : Bool). symbolBit p q n) (t .0) (t .1)
 
 bit-allowed : (p q : Bool) (n : ℕ) → allowed p q (symbolBit p q n) ≡ true

@@ -2,12 +2,11 @@
 use mathlib.Core.Path.{_≡_, refl, sym, ap, ap₂, _∙_, subst}
 use mathlib.Core.Bool.{Bool, true, false}
 use mathlib.Core.List.{List, []}
-use Prim.Native.Nat.{ℕ, _-_, _<_, _≤_}
+use Prim.Native.Nat.{ℕ, _<_, _≤_}
 use native.Mathlib.Omega.{arith}
 use lib.Dec.{eqb, leb}
 use lib.ListN.{length}
 use borrow.Author.Tests.{eqb-true, eqb-false, leb-true, leb-false}
-use Rattle.avr.specs.Codes.{codeOf}
 use Rattle.avr.specs.declared.Instruction.{Instruction}
 use Rattle.manual.specs.Choice.{pick, either}
 use Rattle.manual.specs.Answers.{gives, refuses, noSuchRecord}
@@ -17,7 +16,7 @@ use Rattle.manual.specs.Numbers.{numbersOf}
 use Rattle.manual.specs.Encode.{seat, wordFor, extraFor, wordBytes, rowBytes, encodes}
 use Rattle.rows.specs.Columns.{rowAt}
 use Rattle.rows.proofs.Table.{row-count}
-use Rattle.encode.specs.Demand.{Bytes, NoneDecode, Whole, Right, xClear, restored}
+use Rattle.encode.specs.Demand.{Bytes, NoneDecode, Whole, Right}
 use Rattle.encode.proofs.RowFacts as facts
 use Rattle.encode.proofs.Complete.{has-seat}
 use Rattle.encode.proofs.Found.{found}
@@ -65,8 +64,8 @@ module _ (flag : Bool) (x : Instruction) where
       go true t = refl
       go false t = absurd (d bs (t .bytes) (t .decoded))
 
--- a string that decodes whole is given back, save that a bld or bst comes back with x clear
-pub restores : (flag : Bool) (x : Instruction) (bs : List ℕ) → Whole flag x bs → encodes flag x ≡ gives (restored x bs)
+-- a string that decodes whole is what encoding gives
+pub restores : (flag : Bool) (x : Instruction) (bs : List ℕ) → Whole flag x bs → encodes flag x ≡ gives bs
 unfolding numbersOf
 restores flag x bs o = encoded flag bs x b d ∙ go (eqb (r .bytes) 2) refl
   where
@@ -79,17 +78,15 @@ restores flag x bs o = encoded flag bs x b d ∙ go (eqb (r .bytes) 2) refl
     r : Row
     r = row flag bs x b d
 
-    w : wordFor r (numbersOf x) ≡ xClear (codeOf (x .opcode)) (wordAt bs 0)
+    w : wordFor r (numbersOf x) ≡ wordAt bs 0
     w = word-is flag bs x b d
 
     size : r .bytes ≡ length bs
     size = found-suits flag bs x b d .bytes ∙ sym (o .length)
 
-    go : (v : Bool) → eqb (r .bytes) 2 ≡ v → gives (wordBytes (wordFor r (numbersOf x)) (pick v [] (wordBytes (extraFor r (numbersOf x)) []))) ≡ gives (restored x bs)
-    go true t = ap gives (ap (λ (q : ℕ). wordBytes q []) w ∙ two-back (codeOf (x .opcode)) bs b (sym size ∙ eqb-true (r .bytes) 2 t))
+    go : (v : Bool) → eqb (r .bytes) 2 ≡ v → gives (wordBytes (wordFor r (numbersOf x)) (pick v [] (wordBytes (extraFor r (numbersOf x)) []))) ≡ gives bs
+    go true t = ap gives (ap (λ (q : ℕ). wordBytes q []) w ∙ two-back bs b (sym size ∙ eqb-true (r .bytes) 2 t))
     go false t =
         let n = eqb-false (r .bytes) 2 t in
         let l = eqb-true (r .bytes) 4 (ap (λ (v : Bool). either v (eqb (r .bytes) 4)) (sym t) ∙ facts.two-or-four (f flag bs x b d .at) (f flag bs x b d .below)) in
-        ap gives
-        (ap₂ (λ (p q : ℕ). wordBytes p (wordBytes q [])) w (extra-is flag bs x b d n)
-        ∙ four-back (codeOf (x .opcode)) bs b (sym size ∙ l))
+        ap gives (ap₂ (λ (p q : ℕ). wordBytes p (wordBytes q [])) w (extra-is flag bs x b d n) ∙ four-back bs b (sym size ∙ l))

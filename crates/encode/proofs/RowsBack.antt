@@ -1,48 +1,37 @@
 -- The words that a row decodes are made again of the record.
 use mathlib.Core.Path.{_≡_, refl, sym, ap, ap₂, _∙_, subst}
 use mathlib.Core.Bool.{Bool, true, false, not}
-use mathlib.Core.List.{List, [], _∷_}
+use mathlib.Core.List.{List}
 use Prim.Native.Char.{Char, code}
-use Prim.Native.Nat.{ℕ, _+_, _-_, _*_, _/_, _%_, _^_, _<_}
-use native.Mathlib.Nat.{zero-add}
+use Prim.Native.Nat.{ℕ, _+_, _^_, _<_}
 use native.Mathlib.Omega.{arith}
 use lib.Dec.{eqb}
-use borrow.Author.Tests.{eqb-true, ne-eqb}
-use Rattle.avr.specs.Codes.{codeOf}
-use Rattle.avr.specs.declared.SREGBit.the-variants.{C}
+use borrow.Author.Tests.{eqb-true}
 use Rattle.avr.specs.declared.OperandNumber.{OperandNumber}
 use Rattle.avr.specs.declared.Numbers.{Numbers}
 use Rattle.manual.specs.Choice.{pick, both, either}
-use Rattle.manual.specs.Pattern.{fits, bits, select, field, symbols}
+use Rattle.manual.specs.Pattern.{fits, select, field, symbols}
 use Rattle.manual.specs.Rows.{Row, Arg, rows}
 use Rattle.manual.specs.Operands.{argument}
-use Rattle.manual.specs.Decode.{nameOf, rowInstruction}
+use Rattle.manual.specs.Decode.{rowInstruction}
 use Rattle.manual.specs.Numbers.{operandNumber, numbersOf}
 use Rattle.manual.specs.Ways.{Way, form, letterOf, raw, extra}
 use Rattle.manual.specs.Encode.{sized, firstLetter, secondLetter, lettered, wordFor, extraFor}
-use Rattle.rows.specs.Kinds.{Run, yes, no, ofRuns}
 use Rattle.rows.specs.Columns.{rowAt}
-use Rattle.rows.proofs.Table.{agree, constant}
+use Rattle.rows.proofs.Table.{constant}
 use Rattle.rows.proofs.Words.{sixteen}
-use Rattle.operands.proofs.Runs.{run-bits}
-use Rattle.encode.specs.Spread.{deposit}
-use Rattle.encode.specs.Demand.{xRow, xClear}
 use Rattle.encode.proofs.Truth.{clash}
 use Rattle.encode.proofs.Forms.{numbers-made}
 use Rattle.encode.proofs.Ways.{solid, wide, raw-of, extra-of, no-extra}
 use Rattle.encode.proofs.Build.{isFixed}
-use Rattle.encode.proofs.Spread.{run-deposit}
 use Rattle.encode.proofs.SregBack.{bits-lt, bit-back}
 use Rattle.encode.proofs.Suits.{numIn}
 use Rattle.encode.proofs.RowFacts as facts
 use Rattle.encode.proofs.Restore.{restore, all, absent}
 
--- every symbol of a row is the letter of an argument, s, 0, 1 or x
+-- every symbol of a row is the letter of an argument, s, 0 or 1
 abbrev known : Row → ℕ → Bool
-known r c = either (eqb c (firstLetter r)) (either (eqb c (secondLetter r)) (either (eqb c 115) (either (isFixed c) (eqb c 120))))
-
-abbrev atX : List Run
-atX = no 3 ∷ yes 1 ∷ no 12 ∷ []
+known r c = either (eqb c (firstLetter r)) (either (eqb c (secondLetter r)) (either (eqb c 115) (isFixed c)))
 
 module _ (i : ℕ) (h : i < 103) where
   abbrev r : Row
@@ -58,18 +47,6 @@ module _ (i : ℕ) (h : i < 103) where
   no-marks : all (λ c. not (either (eqb c (code "?")) (eqb c (code "!")))) cs ≡ true
   unfolding rows
   no-marks = constant false i h (λ q. all (λ c. not (either (eqb c (code "?")) (eqb c (code "!")))) (symbols (q .pattern))) true refl
-
-  x-place : select 120 cs ≡ pick (xRow (codeOf (nameOf (r .name) C))) (ofRuns atX) (ofRuns (no 16 ∷ []))
-  unfolding rows
-  x-place = agree [] i h (λ q. select 120 (symbols (q .pattern))) (λ q. pick (xRow (codeOf (nameOf (q .name) C))) (ofRuns atX) (ofRuns (no 16 ∷ []))) refl
-
-  first-no-x : eqb 120 (firstLetter r) ≡ false
-  unfolding rows
-  first-no-x = constant true i h (λ q. eqb 120 (firstLetter q)) false refl
-
-  second-no-x : eqb 120 (secondLetter r) ≡ false
-  unfolding rows
-  second-no-x = constant true i h (λ q. eqb 120 (secondLetter q)) false refl
 
   module _ (w e : ℕ) (l : e < 65536) where
     abbrev n : Numbers
@@ -88,37 +65,20 @@ module _ (i : ℕ) (h : i < 103) where
     abbrev raw2 : ℕ
     raw2 = raw (sized cs (r .second) .way) (n .second .number)
 
-    agrees : (c : ℕ) → isFixed c ≡ false → (c ≡ 120 → ⊥) → lettered r n c ≡ field c cs w
+    agrees : (c : ℕ) → isFixed c ≡ false → lettered r n c ≡ field c cs w
     unfolding rowInstruction numbersOf
-    agrees c l0 l2 = go (eqb c (firstLetter r)) (eqb c (secondLetter r)) (eqb c 115) refl refl refl
+    agrees c free = go (eqb c (firstLetter r)) (eqb c (secondLetter r)) (eqb c 115) refl refl refl
       where
         go : (p q u : Bool) → eqb c (firstLetter r) ≡ p → eqb c (secondLetter r) ≡ q → eqb c 115 ≡ u
             → pick p raw1 (pick q raw2 (pick u (n .opcode .bit) 0)) ≡ field c cs w
         go true q u a b d = raw-back "?" (r .first) (facts.first-solid i h) refl ∙ ap (λ (y : ℕ). field y cs w) (sym (eqb-true c (firstLetter r) a))
         go false true u a b d = raw-back "!" (r .second) (facts.second-solid i h) refl ∙ ap (λ (y : ℕ). field y cs w) (sym (eqb-true c (secondLetter r) b))
         go false false true a b d = bit-back i h w ∙ ap (λ (y : ℕ). field y cs w) (sym (eqb-true c 115 d))
-        go false false false a b d = sym (absent (known r) c cs w all-known (rw (a, b, d, l0, ne-eqb c 120 l2)))
+        go false false false a b d = sym (absent (known r) c cs w all-known (rw (a, b, d, free)))
 
-    pub word-back : w < 65536 → fits cs w ≡ true → wordFor r n ≡ xClear (codeOf (nameOf (r .name) C)) w
+    pub word-back : w < 65536 → fits cs w ≡ true → wordFor r n ≡ w
     unfolding wordFor
-    word-back b t = go (xRow (codeOf (nameOf (r .name) C))) x-place
-      where
-        whole : wordFor r n + deposit (select 120 cs) (field 120 cs w) ≡ w
-        whole =
-            restore (lettered r n) cs w (ap₂ (λ (p q : Bool). pick p raw1 (pick q raw2 0)) first-no-x second-no-x) agrees t
-            (subst (λ (k : ℕ). w < 2 ^ k) (sym (sixteen i h)) b)
-
-        go : (v : Bool) → select 120 cs ≡ pick v (ofRuns atX) (ofRuns (no 16 ∷ [])) → wordFor r n ≡ pick v (w - w / 8 % 2 * 8) w
-        go true k =
-            let s : wordFor r n + deposit (ofRuns atX) (bits (ofRuns atX) w) ≡ w = subst (λ (y : List Bool). wordFor r n + deposit y (bits y w) ≡ w) k whole in
-            let f : bits (ofRuns atX) w ≡ w / 8 % 2 = run-bits atX w ∙ simp (zero-add) in
-            let d = run-deposit atX (bits (ofRuns atX) w) in
-            omega (arith, s, f, d)
-        go false k =
-            let s : wordFor r n + deposit (ofRuns (no 16 ∷ [])) (bits (ofRuns (no 16 ∷ [])) w) ≡ w =
-            subst (λ (y : List Bool). wordFor r n + deposit y (bits y w) ≡ w) k whole in
-            let d = run-deposit (no 16 ∷ []) (bits (ofRuns (no 16 ∷ [])) w) in
-            omega (arith, s, d)
+    word-back b t = restore (lettered r n) cs w agrees t (subst (λ (k : ℕ). w < 2 ^ k) (sym (sixteen i h)) b)
 
     pub extra-back : either (wide (form (r .first) .way)) (wide (form (r .second) .way)) ≡ true → extraFor r n ≡ e
     unfolding extraFor rowInstruction numbersOf

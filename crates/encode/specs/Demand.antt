@@ -1,13 +1,10 @@
 -- What is asked of encoding, over the definitions of encoding and decoding.
 use mathlib.Core.Path.{_≡_}
 use mathlib.Core.Bool.{Bool}
-use mathlib.Core.List.{List, [], _∷_}
-use Prim.Native.Nat.{ℕ, _-_, _*_, _/_, _%_, _<_}
-use lib.Dec.{eqb}
+use mathlib.Core.List.{List, []}
+use Prim.Native.Nat.{ℕ, _<_}
 use lib.ListN.{length, getD}
-use Rattle.avr.specs.Codes.{codeOf}
 use Rattle.avr.specs.declared.Instruction.{Instruction}
-use Rattle.manual.specs.Choice.{pick, either}
 use Rattle.manual.specs.Answers.{Answer, gives, refuses}
 use Rattle.manual.specs.Decode.{decodes}
 
@@ -29,19 +26,3 @@ pub record Whole (flag : Bool) (x : Instruction) (bs : List ℕ) : Type 0 where
 abbrev pub Right : Bool → Instruction → Answer (List ℕ) → Type 0
 Right flag x (gives bs) = Whole flag x bs
 Right flag x (refuses k vs) = (k ≡ 4) × (vs ≡ []) × NoneDecode flag x
-
--- the rows whose pattern has an x, by their opcodes' codes: bld and bst
-abbrev pub xRow : ℕ → Bool
-xRow k = either (eqb k 7) (eqb k 12)
-
--- bit 3 clear, where it is an x
-abbrev pub xClear : ℕ → ℕ → ℕ
-xClear k a = pick (xRow k) (a - a / 8 % 2 * 8) a
-
--- the bytes of a record, with the x of a bld or bst clear
-abbrev pub clearedBy : ℕ → List ℕ → List ℕ
-clearedBy k [] = []
-clearedBy k (a ∷ bs) = xClear k a ∷ bs
-
-abbrev pub restored : Instruction → List ℕ → List ℕ
-restored x bs = clearedBy (codeOf (x .opcode)) bs

@@ -62,8 +62,8 @@ starred =
     case (0x09 ∷ 0x80 ∷ []) (only true) (noSuchWord 0x8009) ∷
     -- not starred, but beside 8009 it shows which row wins
     case (0x08 ∷ 0x80 ∷ []) either (prints 2 "ld r0, y") ∷
-    case (0x08 ∷ 0xF8 ∷ []) either (prints 2 "bld r0, 0") ∷
     case (0x00 ∷ 0xF8 ∷ []) either (prints 2 "bld r0, 0") ∷
+    case (0x08 ∷ 0xF8 ∷ []) either (noSuchWord 0xF808) ∷
     case (0x08 ∷ 0xFC ∷ []) either (noSuchWord 0xFC08) ∷
     case (0x00 ∷ 0xA0 ∷ []) (only true) (prints 2 "lds r16, $80") ∷
     case (0x00 ∷ 0xA0 ∷ []) (only false) (prints 2 "ldd r0, z+32") ∷

@@ -67,7 +67,7 @@ firstLetter r = code (letterOf "?" (form (r .first) .way))
 abbrev pub secondLetter : Row → ℕ
 secondLetter r = code (letterOf "!" (form (r .second) .way))
 
--- the number of each letter: of the operands, of the SREG bit, and 0 for the x of bld and bst
+-- the number of each letter: of the operands and of the SREG bit; no pattern has another
 abbrev pub lettered : Row → Numbers → ℕ → ℕ
 lettered r x c =
     let cs = symbols (r .pattern) in

@@ -163,8 +163,8 @@ rows =
     row "1110 KKKK dddd KKKK" any (plain op.LDI) (high "d") (imm "K") 2 ∷
     row "1111 00kk kkkk ksss" any (flagged op.BRBS) (rel "k") nothing 2 ∷
     row "1111 01kk kkkk ksss" any (flagged op.BRBC) (rel "k") nothing 2 ∷
-    row "1111 100d dddd xbbb" any (plain op.BLD) (reg "d") (bit "b") 2 ∷
-    row "1111 101d dddd xbbb" any (plain op.BST) (reg "d") (bit "b") 2 ∷
+    row "1111 100d dddd 0bbb" any (plain op.BLD) (reg "d") (bit "b") 2 ∷
+    row "1111 101d dddd 0bbb" any (plain op.BST) (reg "d") (bit "b") 2 ∷
     row "1111 110d dddd 0bbb" any (plain op.SBRC) (reg "d") (bit "b") 2 ∷
     row "1111 111d dddd 0bbb" any (plain op.SBRS) (reg "d") (bit "b") 2 ∷
     []

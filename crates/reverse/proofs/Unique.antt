@@ -7,7 +7,6 @@ use mathlib.Core.List.{List, [], _∷_, List·Memᴰ, List·Memᴰ·head, List·
 use Prim.Native.Nat.{ℕ, _≤_}
 use native.Mathlib.Omega.{arith}
 use lib.ListN.{length}
-use Rattle.avr.specs.Codes.{codeOf}
 use Rattle.avr.specs.declared.Str.{Str}
 use Rattle.avr.specs.declared.Str.the-variants as str
 use Rattle.avr.specs.declared.Strings.{Strings}
@@ -17,7 +16,6 @@ use Rattle.manual.specs.Answers.{Answer, gives, refuses, stringOf, stringsOf}
 use Rattle.manual.specs.Decode.{decodes}
 use Rattle.manual.specs.Encode.{encodes}
 use Rattle.manual.specs.Reverse.{Before, shorter, lower, Rising, next, Reverse}
-use Rattle.encode.specs.Demand.{xRow}
 use Rattle.read.specs.Line.{lineAs}
 use Rattle.reverse.specs.Listing.{listing, printsAs, firstPasses}
 use Rattle.reverse.proofs.Demand.{reversed}
@@ -63,12 +61,11 @@ one-reading flag line l m p q =
 
 -- ---- never more than two
 
-listing-few : (b : Bool) (s l : Answer (List ℕ)) → length (listing b s l) ≤ 2
-listing-few b (refuses k vs) (refuses n us) = omega arith
-listing-few b (refuses k vs) (gives cs) = omega arith
-listing-few true (gives bs) l = omega arith
-listing-few false (gives bs) (refuses n us) = omega arith
-listing-few false (gives bs) (gives cs) = omega arith
+listing-few : (s l : Answer (List ℕ)) → length (listing s l) ≤ 2
+listing-few (refuses k vs) (refuses n us) = omega arith
+listing-few (refuses k vs) (gives cs) = omega arith
+listing-few (gives bs) (refuses n us) = omega arith
+listing-few (gives bs) (gives cs) = omega arith
 
 kept-few : (t : Bool) (l : List (List ℕ)) → length l ≤ 2 → length (pick t l []) ≤ 2
 kept-few true l h = h
@@ -77,9 +74,9 @@ kept-few false l h = omega arith
 pub never-more-than-two : (flag : Bool) (line : List ℕ) (l : List (List ℕ)) → Reverse flag line l → length l ≤ 2
 never-more-than-two flag line l p =
     subst (λ (m : List (List ℕ)). length m ≤ 2) (one-reading flag line _ l (reversed flag line) p)
-    (kept-few (firstPasses (λ s. printsAs (decodes flag s) line) (listing (xRow (codeOf (lineAs line 2 .opcode))) (encodes flag (lineAs line 2)) (encodes flag (lineAs line 4))))
-    (listing (xRow (codeOf (lineAs line 2 .opcode))) (encodes flag (lineAs line 2)) (encodes flag (lineAs line 4)))
-    (listing-few (xRow (codeOf (lineAs line 2 .opcode))) (encodes flag (lineAs line 2)) (encodes flag (lineAs line 4))))
+    (kept-few (firstPasses (λ s. printsAs (decodes flag s) line) (listing (encodes flag (lineAs line 2)) (encodes flag (lineAs line 4))))
+    (listing (encodes flag (lineAs line 2)) (encodes flag (lineAs line 4)))
+    (listing-few (encodes flag (lineAs line 2)) (encodes flag (lineAs line 4))))
 
 -- ---- the answers
 

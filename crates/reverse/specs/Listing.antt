@@ -1,7 +1,7 @@
 -- The strings that decode to a record of two bytes or to the same of four, from what encoding gives for the two.
-use Prim.Native.Nat.{ℕ, _+_, _-_, _*_, _/_, _%_}
-use mathlib.Core.Bool.{Bool, true, false}
-use mathlib.Core.List.{List, [], _∷_}
+use Prim.Native.Nat.{ℕ}
+use mathlib.Core.Bool.{Bool, false}
+use mathlib.Core.List.{List, [], _∷_, _++_}
 use Rattle.avr.specs.declared.Instruction.{Instruction}
 use Rattle.manual.specs.Choice.{pick}
 use Rattle.manual.specs.Answers.{Answer, gives, refuses}
@@ -12,19 +12,8 @@ abbrev pub given : Answer (List ℕ) → List (List ℕ)
 given (gives bs) = bs ∷ []
 given (refuses k vs) = []
 
--- bit 3 of the first byte set
-abbrev pub xByte : ℕ → ℕ
-xByte a = a - a / 8 % 2 * 8 + 8
-
-abbrev pub xSet : List ℕ → List ℕ
-xSet [] = []
-xSet (a ∷ bs) = xByte a ∷ bs
-
--- b: the opcode is bld or bst, so each string stands there with x clear and with x set
-abbrev pub listing : Bool → Answer (List ℕ) → Answer (List ℕ) → List (List ℕ)
-listing b (refuses k vs) long = given long
-listing true (gives bs) long = bs ∷ xSet bs ∷ []
-listing false (gives bs) long = bs ∷ given long
+abbrev pub listing : Answer (List ℕ) → Answer (List ℕ) → List (List ℕ)
+listing short long = given short ++ given long
 
 -- what decoding gives prints as the line
 abbrev pub printsAs : Answer Instruction → List ℕ → Bool

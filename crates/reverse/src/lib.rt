@@ -1,10 +1,8 @@
 // The reverse reading: every string of bytes that prints as a line.
 ghost use mathlib.Core.Path.{_≡_};
-ghost use Rattle.avr.specs.Codes.{codeOf};
 ghost use Rattle.manual.specs.Answers.{stringsOf};
 ghost use Rattle.manual.specs.Encode.{encodes};
 ghost use Rattle.manual.specs.Reverse.{Reverse};
-ghost use Rattle.encode.specs.Demand.{xRow};
 ghost use Rattle.read.specs.Line.{lineAs};
 ghost use Rattle.reverse.specs.Listing.{listing, withLength};
 use avr::Instruction;
@@ -13,18 +11,6 @@ use avr::Target;
 
 pub mod listing;
 pub mod printing;
-
-// The row of the record has a bit that is not looked at: it is a bld or bst.
-fn has_x(record: Instruction) -> bool
-    ensures { λ r. ⌜ r ≡ xRow (codeOf («record» .opcode)) ⌝ }
-{
-    let opcode = record.opcode;
-    let n = avr::opcode_number(opcode);
-    if n.code == 7 {
-        return true;
-    }
-    n.code == 12
-}
 
 fn with_length(record: Instruction, length: u8) -> Instruction
     ensures { λ r. ⌜ r ≡ withLength «record» length ⌝ }
@@ -42,15 +28,11 @@ fn with_length(record: Instruction, length: u8) -> Instruction
 
 // The strings of the record that the line is read as, of two bytes and of four.
 fn candidates(line: &[u8], target: Target) -> Strings
-    ensures { λ r. ⌜ stringsOf r ≡ listing (xRow (codeOf (lineAs (now (line .entry)) 2 .opcode))) (encodes (target .has_16_bit_lds_sts) (lineAs (now (line .entry)) 2)) (encodes (target .has_16_bit_lds_sts) (lineAs (now (line .entry)) 4)) ⌝ }
+    ensures { λ r. ⌜ stringsOf r ≡ listing (encodes (target .has_16_bit_lds_sts) (lineAs (now (line .entry)) 2)) (encodes (target .has_16_bit_lds_sts) (lineAs (now (line .entry)) 4)) ⌝ }
 {
     let short = read::line_as(line, 2);
     let long = with_length(short, 4);
-    listing::listed(
-        has_x(short),
-        encode::encode(short, target),
-        encode::encode(long, target),
-    )
+    listing::listed(encode::encode(short, target), encode::encode(long, target))
 }
 
 pub fn reverse(line: &[u8], target: Target) -> Strings

@@ -2,17 +2,10 @@
 ghost use mathlib.Core.Path.{_≡_};
 ghost use mathlib.Core.List.{_∷_, []};
 ghost use Rattle.manual.specs.Answers.{ofEncoded, stringOf, stringsOf};
-ghost use Rattle.reverse.specs.Listing.{given, xByte, listing};
+ghost use Rattle.reverse.specs.Listing.{given, listing};
 use avr::Encoded;
 use avr::Str;
 use avr::Strings;
-
-// A first byte with the x of a bld or bst set.
-fn x_byte(a: u8) -> u8
-    ensures { λ r. ⌜ r ≡ xByte a ⌝ }
-{
-    a - a / 8 % 2 * 8 + 8
-}
 
 fn one(e: Encoded) -> Strings
     ensures { λ r. ⌜ stringsOf r ≡ given (ofEncoded e) ⌝ }
@@ -34,25 +27,13 @@ fn in_front(s: Str, e: Encoded) -> Strings
     }
 }
 
-// The strings of a record, by what encoding gives for its length 2 and for its length 4, and whether it is a bld or bst.
-pub(crate) fn listed(x: bool, short: Encoded, long: Encoded) -> Strings
-    ensures { λ r. ⌜ stringsOf r ≡ listing x (ofEncoded short) (ofEncoded long) ⌝ }
+// The strings of a record, by what encoding gives for its length 2 and for its length 4.
+pub(crate) fn listed(short: Encoded, long: Encoded) -> Strings
+    ensures { λ r. ⌜ stringsOf r ≡ listing (ofEncoded short) (ofEncoded long) ⌝ }
 {
     match short {
-        Encoded::Two(a, b) => {
-            if x {
-                Strings::Two(Str::Short(a, b), Str::Short(x_byte(a), b))
-            } else {
-                in_front(Str::Short(a, b), long)
-            }
-        }
-        Encoded::Four(a, b, c, d) => {
-            if x {
-                Strings::Two(Str::Long(a, b, c, d), Str::Long(x_byte(a), b, c, d))
-            } else {
-                in_front(Str::Long(a, b, c, d), long)
-            }
-        }
+        Encoded::Two(a, b) => in_front(Str::Short(a, b), long),
+        Encoded::Four(a, b, c, d) => in_front(Str::Long(a, b, c, d), long),
         Encoded::NoSuchRecord => one(long),
     }
 }

@@ -27,43 +27,36 @@ fn decodes_to(x: Instruction, bytes: &[u8], target: Target) -> bool {
     same(numbers_of(x), numbers_of(y))
 }
 
-// What comes of the first word: 0 the same bytes, 1 the same but for a clear x, 2 refused by decoding, 3 anything else.
+// What comes of the first word: 0 the same bytes, 1 refused by decoding, 2 anything else.
 fn verdict(low: u8, high: u8, target: Target) -> u8 {
     let bytes = [low, high, 0x34, 0x12];
     let Decoded::Instruction(x) = decode::decode(&bytes, target) else {
-        return 2;
+        return 1;
     };
     let encoded = encode::encode(x, target);
     match encoded {
-        Encoded::NoSuchRecord => 3,
+        Encoded::NoSuchRecord => 2,
         Encoded::Two(a, b) => {
             let again = [a, b];
-            judged(decodes_to(x, &again, target), a, b, low, high)
+            judged(decodes_to(x, &again, target) && a == low && b == high)
         }
         Encoded::Four(a, b, c, d) => {
             let again = [a, b, c, d];
-            let whole = c == 0x34 && d == 0x12 && decodes_to(x, &again, target);
-            judged(whole, a, b, low, high)
+            let second = c == 0x34 && d == 0x12;
+            judged(decodes_to(x, &again, target) && a == low && b == high && second)
         }
     }
 }
 
-fn judged(whole: bool, a: u8, b: u8, low: u8, high: u8) -> u8 {
-    if !whole || b != high {
-        return 3;
-    }
-    if a == low {
+fn judged(same: bool) -> u8 {
+    if same {
         return 0;
     }
-    if a % 8 == low % 8 && a / 16 == low / 16 && a / 8 % 2 == 0 {
-        return 1;
-    }
-    3
+    2
 }
 
 struct Counts {
     same: u64,
-    clear: u64,
     refused: u64,
     bad: u64,
 }
@@ -80,25 +73,16 @@ fn counted(n: Counts, v: u8) -> Counts {
     match v {
         0 => Counts {
             same: more(n.same),
-            clear: n.clear,
             refused: n.refused,
             bad: n.bad,
         },
         1 => Counts {
             same: n.same,
-            clear: more(n.clear),
-            refused: n.refused,
-            bad: n.bad,
-        },
-        2 => Counts {
-            same: n.same,
-            clear: n.clear,
             refused: more(n.refused),
             bad: n.bad,
         },
         _ => Counts {
             same: n.same,
-            clear: n.clear,
             refused: n.refused,
             bad: more(n.bad),
         },
@@ -108,7 +92,6 @@ fn counted(n: Counts, v: u8) -> Counts {
 fn all_words(target: Target) -> Counts {
     let mut counts = Counts {
         same: 0,
-        clear: 0,
         refused: 0,
         bad: 0,
     };
@@ -136,7 +119,6 @@ fn print_counts(flag: bool) {
         io::write_all(1, b"every first word, flag false\n");
     }
     print_count(b"  same bytes: ", n.same);
-    print_count(b"  x cleared: ", n.clear);
     print_count(b"  refused by decode: ", n.refused);
     print_count(b"  bad: ", n.bad);
 }

@@ -11,20 +11,18 @@ returns : tie.Need-returns
 returns c =
     let e2 = c .before in
     let e1 = e2 .before in
-    let x = e1 .before in
-    let l = x .before in
+    let l = e1 .before in
     let r = l .before in
     let s = r .before .before .args in
     c .listed .ensures
-    ∙ candidates-are (s .target .«has_16_bit_lds_sts») (now (s .line)) (r .line-as .result) (l .with-length .result) (x .has-x .result)
+    ∙ candidates-are (s .target .«has_16_bit_lds_sts») (now (s .line)) (r .line-as .result) (l .with-length .result)
     (ofEncoded (e1 .encode .result)) (ofEncoded (e2 .encode2 .result))
-    (r .line-as .ensures) (l .with-length .ensures) (x .has-x .ensures) (e1 .encode .ensures) (e2 .encode2 .ensures)
+    (r .line-as .ensures) (l .with-length .ensures) (e1 .encode .ensures) (e2 .encode2 .ensures)
 
 pub candidates-spec : {M : Type 1} → statement M
 candidates-spec =
     tie.close
     (tie.spec
-    (λ c κs. search needs)
     (λ c κs. search needs)
     (λ c κs. search needs)
     (λ c κs. search needs)
