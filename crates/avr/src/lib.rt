@@ -120,7 +120,10 @@ pub enum Operand {
     ImmediateU8(u8),
     // in words, from the instruction itself
     AddrPCRelative(i16),
-    AddrAbsolute(u32),
+    // the source's one absolute address is three, by its space: of the program in bytes, of data, of I/O
+    AddrProgram(u32),
+    AddrData(u16),
+    AddrIO(u8),
     BitIndex(u8),
 }
 

@@ -35,10 +35,10 @@ map-map g f (arg.disp i x) = refl
 map-map g f (arg.imm x) = refl
 map-map g f (arg.bit x) = refl
 map-map g f (arg.rel x) = refl
-map-map g f (arg.abs x) = refl
-map-map g f (arg.abs7 x) = refl
-map-map g f arg.word = refl
-map-map g f (arg.far x) = refl
+map-map g f (arg.io x) = refl
+map-map g f (arg.data7 x) = refl
+map-map g f arg.data16 = refl
+map-map g f (arg.program x) = refl
 
 -- an argument of the shape of a kind has the kind's value
 pub of-kind : (k : ℕ) (a : Arg Char) (cs : List ℕ) (w e : ℕ) → kindAt k ≡ shape cs a → kindValue k w e ≡ argument a cs w e

@@ -19,10 +19,10 @@ form-map f (arg.disp i x) = refl
 form-map f (arg.imm x) = refl
 form-map f (arg.bit x) = refl
 form-map f (arg.rel x) = refl
-form-map f (arg.abs x) = refl
-form-map f (arg.abs7 x) = refl
-form-map f arg.word = refl
-form-map f (arg.far x) = refl
+form-map f (arg.io x) = refl
+form-map f (arg.data7 x) = refl
+form-map f arg.data16 = refl
+form-map f (arg.program x) = refl
 
 -- the number of an operand, by the letter's bits and the second word
 abbrev pub value : Way Num → ℕ → ℕ
@@ -44,10 +44,10 @@ numbers-of (arg.disp i x) e = ap (numbered (indexClass i 3)) (sym (zero-add (x .
 numbers-of (arg.imm x) e = ap (numbered 15) (sym (zero-add (x .value)))
 numbers-of (arg.bit x) e = ap (numbered 16) (sym (zero-add (x .value)))
 numbers-of (arg.rel x) e = refl
-numbers-of (arg.abs x) e = ap (numbered 18) (sym (zero-add (x .value)))
-numbers-of (arg.abs7 x) e = refl
-numbers-of arg.word e = refl
-numbers-of (arg.far x) e = refl
+numbers-of (arg.io x) e = ap (numbered 20) (sym (zero-add (x .value)))
+numbers-of (arg.data7 x) e = refl
+numbers-of arg.data16 e = refl
+numbers-of (arg.program x) e = refl
 
 pub numbers-made : {L : Type 0} (f : L → Num) (a : Arg L) (e : ℕ)
     → operandNumber (operandOf (mapArg f a) e) ≡ numbered (form a .class) (value (mapWay f (form a .way)) e)

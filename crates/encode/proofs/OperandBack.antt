@@ -43,7 +43,8 @@ abbrev shapes : ℕ → List Operand
 shapes n =
     operand.Nothing ∷ operand.Register (register.Register n) ∷ operand.Register (register.RegisterPair n) ∷
     changes X n (changes Y n (changes Z n
-    (operand.ImmediateU8 n ∷ operand.BitIndex n ∷ operand.AddrPCRelative (unfolded n) ∷ operand.AddrAbsolute n ∷ [])))
+    (operand.ImmediateU8 n ∷ operand.BitIndex n ∷ operand.AddrPCRelative (unfolded n) ∷
+    operand.AddrProgram n ∷ operand.AddrData n ∷ operand.AddrIO n ∷ [])))
 
 abbrev shaped : OperandNumber → Operand
 shaped o = getD (shapes (o .number)) (o .class) operand.Nothing
@@ -67,7 +68,9 @@ operand-back (operand.Register (register.IndexRegister Z (modifier.Displacement 
 operand-back (operand.ImmediateU8 n) = refl
 operand-back (operand.BitIndex n) = refl
 operand-back (operand.AddrPCRelative z) = ap operand.AddrPCRelative (fold-back z)
-operand-back (operand.AddrAbsolute n) = refl
+operand-back (operand.AddrProgram n) = refl
+operand-back (operand.AddrData n) = refl
+operand-back (operand.AddrIO n) = refl
 
 -- two operands of the same numbers are the same
 pub same-operand : (o p : Operand) → operandNumber o ≡ operandNumber p → o ≡ p

@@ -104,9 +104,17 @@ fn operand_number(o: Operand) -> OperandNumber
             class: 17,
             number: fold(z),
         },
-        Operand::AddrAbsolute(n) => OperandNumber {
+        Operand::AddrProgram(n) => OperandNumber {
             class: 18,
             number: n,
+        },
+        Operand::AddrData(n) => OperandNumber {
+            class: 19,
+            number: n as u32,
+        },
+        Operand::AddrIO(n) => OperandNumber {
+            class: 20,
+            number: n as u32,
         },
     }
 }

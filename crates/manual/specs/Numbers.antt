@@ -31,7 +31,7 @@ displacement modifier.PostIncrement = 0
 displacement modifier.PreDecrement = 0
 displacement (modifier.Displacement q) = q
 
--- the classes 0 to 18: nothing, a register, a pair, the three index registers with their four changes, and the last four kinds
+-- the classes 0 to 20: nothing, a register, a pair, the three index registers with their four changes, and the last six kinds
 abbrev pub indexClass : IndexRegister → ℕ → ℕ
 indexClass i change = 3 + indexCode i * 4 + change
 
@@ -55,7 +55,9 @@ operandNumber (operand.Register r) = registerNumber r
 operandNumber (operand.ImmediateU8 n) = numbered 15 n
 operandNumber (operand.BitIndex n) = numbered 16 n
 operandNumber (operand.AddrPCRelative z) = numbered 17 (folded z)
-operandNumber (operand.AddrAbsolute n) = numbered 18 n
+operandNumber (operand.AddrProgram n) = numbered 18 n
+operandNumber (operand.AddrData n) = numbered 19 n
+operandNumber (operand.AddrIO n) = numbered 20 n
 
 unfoldable pub numbersOf : Instruction → Numbers
 numbersOf x =

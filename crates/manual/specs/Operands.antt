@@ -45,10 +45,10 @@ operandOf (arg.disp i n) e = operand.Register (register.IndexRegister i (modifie
 operandOf (arg.imm n) e = operand.ImmediateU8 (n .value)
 operandOf (arg.bit n) e = operand.BitIndex (n .value)
 operandOf (arg.rel n) e = operand.AddrPCRelative (nearOf (n .size) (n .value))
-operandOf (arg.abs n) e = operand.AddrAbsolute (n .value)
-operandOf (arg.abs7 n) e = operand.AddrAbsolute (lowOf (n .value))
-operandOf arg.word e = operand.AddrAbsolute e
-operandOf (arg.far n) e = operand.AddrAbsolute (farOf (n .value) e)
+operandOf (arg.io n) e = operand.AddrIO (n .value)
+operandOf (arg.data7 n) e = operand.AddrData (lowOf (n .value))
+operandOf arg.data16 e = operand.AddrData e
+operandOf (arg.program n) e = operand.AddrProgram (farOf (n .value) e)
 
 -- another thing in the place of each letter
 abbrev pub mapArg : {L M : Type 0} → (L → M) → Arg L → Arg M
@@ -62,10 +62,10 @@ mapArg f (arg.disp i x) = arg.disp i (f x)
 mapArg f (arg.imm x) = arg.imm (f x)
 mapArg f (arg.bit x) = arg.bit (f x)
 mapArg f (arg.rel x) = arg.rel (f x)
-mapArg f (arg.abs x) = arg.abs (f x)
-mapArg f (arg.abs7 x) = arg.abs7 (f x)
-mapArg f arg.word = arg.word
-mapArg f (arg.far x) = arg.far (f x)
+mapArg f (arg.io x) = arg.io (f x)
+mapArg f (arg.data7 x) = arg.data7 (f x)
+mapArg f arg.data16 = arg.data16
+mapArg f (arg.program x) = arg.program (f x)
 
 -- the operand that a pattern's symbols, the first word and the second make of an argument
 abbrev pub argument : Arg Char → List ℕ → ℕ → ℕ → Operand

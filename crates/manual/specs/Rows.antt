@@ -40,11 +40,11 @@ pub data Arg (L : Type 0) : Type 0 where
   bit : L → Arg L
   -- a relative address
   rel : L → Arg L
-  -- an absolute address: of I/O; of data in 7 bits; of data in the second word; of the program, with the second word
-  abs : L → Arg L
-  abs7 : L → Arg L
-  word : Arg L
-  far : L → Arg L
+  -- an address: of I/O; of data, in 7 bits or in the second word; of the program, with the second word
+  io : L → Arg L
+  data7 : L → Arg L
+  data16 : Arg L
+  program : L → Arg L
 
 -- an opcode, or one that holds the SREG bit that the letter s gives
 pub data Name : Type 0 where
@@ -95,7 +95,7 @@ rows =
     row "10q0 qq1d dddd 0qqq" (only false) (plain op.STD) (disp Z "q") (reg "d") 2 ∷
     row "1000 001d dddd 1000" any (plain op.ST) (index Y Unchanged) (reg "d") 2 ∷
     row "10q0 qq1d dddd 1qqq" (only false) (plain op.STD) (disp Y "q") (reg "d") 2 ∷
-    row "1001 000d dddd 0000" any (plain op.LDS) (reg "d") word 4 ∷
+    row "1001 000d dddd 0000" any (plain op.LDS) (reg "d") data16 4 ∷
     row "1001 000d dddd 0001" any (plain op.LD) (reg "d") (index Z PostIncrement) 2 ∷
     row "1001 000d dddd 0010" any (plain op.LD) (reg "d") (index Z PreDecrement) 2 ∷
     row "1001 000d dddd 0100" any (plain op.LPM) (reg "d") (index Z Unchanged) 2 ∷
@@ -108,7 +108,7 @@ rows =
     row "1001 000d dddd 1101" any (plain op.LD) (reg "d") (index X PostIncrement) 2 ∷
     row "1001 000d dddd 1110" any (plain op.LD) (reg "d") (index X PreDecrement) 2 ∷
     row "1001 000d dddd 1111" any (plain op.POP) (reg "d") nothing 2 ∷
-    row "1001 001d dddd 0000" any (plain op.STS) word (reg "d") 4 ∷
+    row "1001 001d dddd 0000" any (plain op.STS) data16 (reg "d") 4 ∷
     row "1001 001d dddd 0001" any (plain op.ST) (index Z PostIncrement) (reg "d") 2 ∷
     row "1001 001d dddd 0010" any (plain op.ST) (index Z PreDecrement) (reg "d") 2 ∷
     row "1001 001d dddd 0100" any (plain op.XCH) (index Z Unchanged) (reg "d") 2 ∷
@@ -132,8 +132,8 @@ rows =
     row "1001 0100 0000 1001" any (plain op.IJMP) nothing nothing 2 ∷
     row "1001 010d dddd 1010" any (plain op.DEC) (reg "d") nothing 2 ∷
     row "1001 0100 KKKK 1011" any (plain op.DES) (imm "K") nothing 2 ∷
-    row "1001 010k kkkk 110k" any (plain op.JMP) (far "k") nothing 4 ∷
-    row "1001 010k kkkk 111k" any (plain op.CALL) (far "k") nothing 4 ∷
+    row "1001 010k kkkk 110k" any (plain op.JMP) (program "k") nothing 4 ∷
+    row "1001 010k kkkk 111k" any (plain op.CALL) (program "k") nothing 4 ∷
     row "1001 0100 0001 1001" any (plain op.EIJMP) nothing nothing 2 ∷
     row "1001 0100 1sss 1000" any (flagged op.BCLR) nothing nothing 2 ∷
     row "1001 0101 0000 1000" any (plain op.RET) nothing nothing 2 ∷
@@ -149,15 +149,15 @@ rows =
     row "1001 0101 1111 1000" any (plain op.SPM) (index Z PostIncrement) nothing 2 ∷
     row "1001 0110 KKdd KKKK" any (plain op.ADIW) (pair24 "d") (imm "K") 2 ∷
     row "1001 0111 KKdd KKKK" any (plain op.SBIW) (pair24 "d") (imm "K") 2 ∷
-    row "1001 1000 AAAA Abbb" any (plain op.CBI) (abs "A") (bit "b") 2 ∷
-    row "1001 1001 AAAA Abbb" any (plain op.SBIC) (abs "A") (bit "b") 2 ∷
-    row "1001 1010 AAAA Abbb" any (plain op.SBI) (abs "A") (bit "b") 2 ∷
-    row "1001 1011 AAAA Abbb" any (plain op.SBIS) (abs "A") (bit "b") 2 ∷
+    row "1001 1000 AAAA Abbb" any (plain op.CBI) (io "A") (bit "b") 2 ∷
+    row "1001 1001 AAAA Abbb" any (plain op.SBIC) (io "A") (bit "b") 2 ∷
+    row "1001 1010 AAAA Abbb" any (plain op.SBI) (io "A") (bit "b") 2 ∷
+    row "1001 1011 AAAA Abbb" any (plain op.SBIS) (io "A") (bit "b") 2 ∷
     row "1001 11rd dddd rrrr" any (plain op.MUL) (reg "d") (reg "r") 2 ∷
-    row "1010 0kkk dddd kkkk" (only true) (plain op.LDS) (high "d") (abs7 "k") 2 ∷
-    row "1010 1kkk dddd kkkk" (only true) (plain op.STS) (abs7 "k") (high "d") 2 ∷
-    row "1011 0AAd dddd AAAA" any (plain op.IN) (reg "d") (abs "A") 2 ∷
-    row "1011 1AAd dddd AAAA" any (plain op.OUT) (abs "A") (reg "d") 2 ∷
+    row "1010 0kkk dddd kkkk" (only true) (plain op.LDS) (high "d") (data7 "k") 2 ∷
+    row "1010 1kkk dddd kkkk" (only true) (plain op.STS) (data7 "k") (high "d") 2 ∷
+    row "1011 0AAd dddd AAAA" any (plain op.IN) (reg "d") (io "A") 2 ∷
+    row "1011 1AAd dddd AAAA" any (plain op.OUT) (io "A") (reg "d") 2 ∷
     row "1100 kkkk kkkk kkkk" any (plain op.RJMP) (rel "k") nothing 2 ∷
     row "1101 kkkk kkkk kkkk" any (plain op.RCALL) (rel "k") nothing 2 ∷
     row "1110 KKKK dddd KKKK" any (plain op.LDI) (high "d") (imm "K") 2 ∷

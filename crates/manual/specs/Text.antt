@@ -197,7 +197,9 @@ operandText operand.Nothing = []
 operandText (operand.Register r) = registerText r
 operandText (operand.ImmediateU8 n) = immediateText n
 operandText (operand.AddrPCRelative z) = relativeText z
-operandText (operand.AddrAbsolute n) = addressText n
+operandText (operand.AddrProgram n) = addressText n
+operandText (operand.AddrData n) = addressText n
+operandText (operand.AddrIO n) = addressText n
 operandText (operand.BitIndex n) = decimal n
 
 abbrev pub isNothing : Operand → Bool
@@ -205,7 +207,9 @@ isNothing operand.Nothing = true
 isNothing (operand.Register r) = false
 isNothing (operand.ImmediateU8 n) = false
 isNothing (operand.AddrPCRelative z) = false
-isNothing (operand.AddrAbsolute n) = false
+isNothing (operand.AddrProgram n) = false
+isNothing (operand.AddrData n) = false
+isNothing (operand.AddrIO n) = false
 isNothing (operand.BitIndex n) = false
 
 -- ---- the whole

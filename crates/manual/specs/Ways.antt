@@ -42,10 +42,10 @@ form (arg.disp i x) = ofClass (indexClass i 3) (from 0 1 x)
 form (arg.imm x) = ofClass 15 (from 0 0 x)
 form (arg.bit x) = ofClass 16 (from 0 0 x)
 form (arg.rel x) = ofClass 17 (near x)
-form (arg.abs x) = ofClass 18 (from 0 0 x)
-form (arg.abs7 x) = ofClass 18 (low x)
-form arg.word = ofClass 18 second
-form (arg.far x) = ofClass 18 (far x)
+form (arg.io x) = ofClass 20 (from 0 0 x)
+form (arg.data7 x) = ofClass 19 (low x)
+form arg.data16 = ofClass 19 second
+form (arg.program x) = ofClass 18 (far x)
 
 -- another thing in the place of the letter
 abbrev pub mapWay : {L M : Type 0} → (L → M) → Way L → Way M

@@ -41,11 +41,11 @@ fn near(half: u16, k: u16) -> i16
 }
 
 // The address of a 16-bit lds or sts.
-pub fn low_address(k: u8) -> u32
+pub fn low_address(k: u8) -> u16
     ensures { λ r. ⌜ r ≡ lowOf k ⌝ }
 {
-    let b = (k / 16 % 2) as u32;
-    (1 - b) * 128 + b * 64 + (k / 32) as u32 * 16 + (k % 16) as u32
+    let b = (k / 16 % 2) as u16;
+    (1 - b) * 128 + b * 64 + (k / 32) as u16 * 16 + (k % 16) as u16
 }
 
 // A program address in bytes.
@@ -76,11 +76,11 @@ pub fn operand(kind: u8, w: u16, e: u16) -> Operand
         13 => Operand::BitIndex(r3(w)),
         14 => Operand::AddrPCRelative(near(2048, k12(w))),
         15 => Operand::AddrPCRelative(near(64, k7(w) as u16)),
-        16 => Operand::AddrAbsolute(a5(w) as u32),
-        17 => Operand::AddrAbsolute(a6(w) as u32),
-        18 => Operand::AddrAbsolute(low_address(s7(w))),
-        19 => Operand::AddrAbsolute(e as u32),
-        20 => Operand::AddrAbsolute(far_address(f6(w), e)),
+        16 => Operand::AddrIO(a5(w)),
+        17 => Operand::AddrIO(a6(w)),
+        18 => Operand::AddrData(low_address(s7(w))),
+        19 => Operand::AddrData(e),
+        20 => Operand::AddrProgram(far_address(f6(w), e)),
         21 => Operand::Register(Register::IndexRegister(
             IndexRegister::Z,
             IndexRegisterModifier::Displacement(q6(w)),

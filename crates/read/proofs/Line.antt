@@ -22,7 +22,7 @@ use Rattle.text.specs.Names.{nameList}
 use Rattle.cut.proofs.Parts.{Lacks}
 use Rattle.encode.proofs.Truth.{both-true, not-true, either-use}
 use Rattle.read.specs.Operands.{operandAs}
-use Rattle.read.specs.Line.{numberAs, opcodeFrom, immediateFirst, immediateSecond, lineAs}
+use Rattle.read.specs.Line.{numberAs, opcodeFrom, classFor, lineAs}
 use Rattle.read.proofs.Operands.{operand-back}
 use Rattle.read.proofs.Spelled.{spells, spelled}
 use Rattle.read.proofs.Parts.{parts}
@@ -44,10 +44,10 @@ empty (arg.disp i x) = false
 empty (arg.imm x) = false
 empty (arg.bit x) = false
 empty (arg.rel x) = false
-empty (arg.abs x) = false
-empty (arg.abs7 x) = false
-empty arg.word = false
-empty (arg.far x) = false
+empty (arg.io x) = false
+empty (arg.data7 x) = false
+empty arg.data16 = false
+empty (arg.program x) = false
 
 abbrev sizes : Row → Arg Char → Arg ℕ
 sizes r a = mapArg (λ x. width (select (code x) (symbols (r .pattern)))) a
@@ -56,10 +56,10 @@ numberFor : SREGBit → Row → ℕ
 numberFor s r = numberAs (mnemonic (nameOf (r .name) s))
 
 firstTest : SREGBit → Row → Bool
-firstTest s r = spells (immediateFirst (numberFor s r)) (sizes r (r .first))
+firstTest s r = spells (classFor (numberFor s r)) (sizes r (r .first))
 
 secondTest : SREGBit → Row → Bool
-secondTest s r = spells (immediateSecond (numberFor s r)) (sizes r (r .second))
+secondTest s r = spells (classFor (numberFor s r)) (sizes r (r .second))
 
 blankTest : SREGBit → Row → Bool
 blankTest s r = lacking 32 (mnemonic (nameOf (r .name) s))
@@ -114,10 +114,10 @@ empty-is (arg.disp i x) cs w e = refl
 empty-is (arg.imm x) cs w e = refl
 empty-is (arg.bit x) cs w e = refl
 empty-is (arg.rel x) cs w e = refl
-empty-is (arg.abs x) cs w e = refl
-empty-is (arg.abs7 x) cs w e = refl
-empty-is arg.word cs w e = refl
-empty-is (arg.far x) cs w e = refl
+empty-is (arg.io x) cs w e = refl
+empty-is (arg.data7 x) cs w e = refl
+empty-is arg.data16 cs w e = refl
+empty-is (arg.program x) cs w e = refl
 
 module _ (i w e : ℕ) (h : i < 103) (small : e < 65536) where
   r : Row
@@ -141,6 +141,6 @@ module _ (i w e : ℕ) (h : i < 103) (small : e < 65536) where
       let o : isNothing a ≡ true → isNothing b ≡ true = λ z. empty-is (r .second) cs w e ∙ either-use (empty (r .first)) (empty (r .second)) (sym (empty-is (r .first) cs w e) ∙ z) (order-test i h) in
       let p = parts m a b (lacks 32 m (u .1)) o in
       let x = ap (λ l. opcodeFrom (numberAs l)) (p .name) ∙ opcode-back i h s in
-      let y = ap₂ (λ l k. operandAs (immediateFirst (numberAs l)) k) (p .name) (p .first) ∙ operand-back (immediateFirst n) a (spelled (immediateFirst n) cs w e small (r .first) (t .0)) in
-      let z = ap₂ (λ l k. operandAs (immediateSecond (numberAs l)) k) (p .name) (p .second) ∙ operand-back (immediateSecond n) b (spelled (immediateSecond n) cs w e small (r .second) (u .0)) in
+      let y = ap₂ (λ l k. operandAs (classFor (numberAs l)) k) (p .name) (p .first) ∙ operand-back (classFor n) a (spelled (classFor n) cs w e small (r .first) (t .0)) in
+      let z = ap₂ (λ l k. operandAs (classFor (numberAs l)) k) (p .name) (p .second) ∙ operand-back (classFor n) b (spelled (classFor n) cs w e small (r .second) (u .0)) in
       λ j. record { opcode = x j; first = y j; second = z j; length = r .bytes }

@@ -17,15 +17,15 @@ use Rattle.avr.specs.declared.Register.the-variants as register
 use Rattle.avr.specs.declared.Operand.{Operand}
 use Rattle.avr.specs.declared.Operand.the-variants as operand
 use Rattle.manual.specs.Choice.{pick}
-use Rattle.manual.specs.Text.{digit, digits, decimal, registerText, relativeText, immediateText, addressText, operandText}
+use Rattle.manual.specs.Text.{digit, digits, decimal, hexadecimal, registerText, relativeText, immediateText, addressText, operandText}
 use Rattle.cut.specs.Cut.{valueFrom}
 use Rattle.cut.proofs.Parts.{Lacks, up-seam, past-seam, up-all, lacks-both}
 use Rattle.cut.proofs.Digits.{digits-back, padded-back, digits-lack, padded-lack, decimal-lacks}
 use Rattle.text.proofs.Below.{below}
-use Rattle.read.specs.Operands.{changeAs, registerAs, distanceAs, operandAs}
+use Rattle.read.specs.Operands.{changeAs, registerAs, distanceAs, dollarAs, operandAs}
 
--- the operands that are read back, where a number behind `$` is said to be an immediate or not
-abbrev pub Spelled : Bool → Operand → Type 0
+-- the operands that are read back, where a number behind `$` has the class m
+abbrev pub Spelled : ℕ → Operand → Type 0
 Spelled m operand.Nothing = Unit {0}
 Spelled m (operand.Register (register.Register n)) = n < 256
 Spelled m (operand.Register (register.RegisterPair n)) = n < 256
@@ -33,16 +33,21 @@ Spelled m (operand.Register (register.IndexRegister i modifier.Unchanged)) = Uni
 Spelled m (operand.Register (register.IndexRegister i modifier.PostIncrement)) = Unit {0}
 Spelled m (operand.Register (register.IndexRegister i modifier.PreDecrement)) = Unit {0}
 Spelled m (operand.Register (register.IndexRegister i (modifier.Displacement q))) = q < 256
-Spelled m (operand.ImmediateU8 n) = (m ≡ true) × (n < 256)
+Spelled m (operand.ImmediateU8 n) = (m ≡ 15) × (n < 256)
 Spelled m (operand.AddrPCRelative (pos n)) = n < 32768
 Spelled m (operand.AddrPCRelative (negsuc n)) = suc n < 32768
-Spelled m (operand.AddrAbsolute n) = (m ≡ false) × (n < 16777216)
+Spelled m (operand.AddrProgram n) = (m ≡ 18) × (n < 16777216)
+Spelled m (operand.AddrData n) = (m ≡ 19) × (n < 65536)
+Spelled m (operand.AddrIO n) = (m ≡ 20) × (n < 256)
 Spelled m (operand.BitIndex n) = n < 10
 
 -- ---- numbers
 
 dec-back : (n : ℕ) → n < 100000 → valueFrom 10 0 (decimal n) ≡ n
 dec-back n h = digits-back 10 (omega arith) (omega arith) 5 n h (omega arith)
+
+hex-back : (n : ℕ) → n < 16777216 → valueFrom 16 0 (hexadecimal n) ≡ n
+hex-back n h = digits-back 16 (omega arith) (omega arith) 8 n (omega arith) h
 
 some-digit : (b k n : ℕ) → 1 ≤ length (digits b (suc k) n)
 unfolding digits
@@ -79,7 +84,7 @@ displaced-back q h =
 
 -- ---- relative addresses
 
-distance-back : (z : ℤ) → Spelled true (operand.AddrPCRelative z) → distanceAs (drop 2 (relativeText z)) ≡ z
+distance-back : (z : ℤ) → Spelled 15 (operand.AddrPCRelative z) → distanceAs (drop 2 (relativeText z)) ≡ z
 unfolding distanceAs relativeText
 distance-back (pos zero) h = refl
 distance-back (pos (suc n)) h = rw (dec-back (suc n) (omega arith)) (ap pos (mod-eq-of-lt h))
@@ -87,12 +92,12 @@ distance-back (negsuc n) h = rw (dec-back (suc n) (omega arith)) (ap (λ (k : �
 
 -- ---- operands
 
-bit-back : (m : Bool) (n : ℕ) → n < 10 → operandAs m (operandText (operand.BitIndex n)) ≡ operand.BitIndex n
+bit-back : (m : ℕ) (n : ℕ) → n < 10 → operandAs m (operandText (operand.BitIndex n)) ≡ operand.BitIndex n
 unfolding operandAs operandText digits digit
 bit-back m n h = below operand.Nothing (λ k. operandAs m (operandText (operand.BitIndex k))) operand.BitIndex 10 refl n h
 
-pub operand-back : (m : Bool) (o : Operand) → Spelled m o → operandAs m (operandText o) ≡ o
-unfolding operandAs operandText registerText relativeText immediateText addressText changeAs
+pub operand-back : (m : ℕ) (o : Operand) → Spelled m o → operandAs m (operandText o) ≡ o
+unfolding operandAs dollarAs operandText registerText relativeText immediateText addressText changeAs
 operand-back m operand.Nothing h = refl
 operand-back m (operand.Register (register.Register n)) h = ap operand.Register (register-back n h)
 operand-back m (operand.Register (register.RegisterPair n)) h = ap operand.Register (pair-back n h)
@@ -113,8 +118,9 @@ operand-back m (operand.ImmediateU8 n) h =
 operand-back m (operand.AddrPCRelative (pos zero)) h = ap operand.AddrPCRelative (distance-back (pos zero) h)
 operand-back m (operand.AddrPCRelative (pos (suc n))) h = ap operand.AddrPCRelative (distance-back (pos (suc n)) h)
 operand-back m (operand.AddrPCRelative (negsuc n)) h = ap operand.AddrPCRelative (distance-back (negsuc n) h)
-operand-back m (operand.AddrAbsolute n) h =
-    rw (h .0, digits-back 16 (omega arith) (omega arith) 8 n (omega (arith, h .1)) (h .1))
+operand-back m (operand.AddrProgram n) h = rw (h .0, hex-back n (h .1))
+operand-back m (operand.AddrData n) h = rw (h .0, hex-back n (omega (arith, h .1))) (ap operand.AddrData (mod-eq-of-lt (h .1)))
+operand-back m (operand.AddrIO n) h = rw (h .0, hex-back n (omega (arith, h .1))) (ap operand.AddrIO (mod-eq-of-lt (h .1)))
 operand-back m (operand.BitIndex n) h = bit-back m n h
 
 -- ---- no comma
@@ -122,6 +128,9 @@ operand-back m (operand.BitIndex n) h = bit-back m n h
 module _ where
   lacks-decimal : (n : ℕ) → Lacks 44 (decimal n)
   lacks-decimal n = digits-lack 44 (omega arith) 10 5 n
+
+  lacks-hexadecimal : (n : ℕ) → Lacks 44 (hexadecimal n)
+  lacks-hexadecimal n = digits-lack 44 (omega arith) 16 8 n
 
   pub no-comma : (o : Operand) → Lacks 44 (operandText o)
   unfolding operandText registerText immediateText addressText relativeText
@@ -145,5 +154,7 @@ module _ where
   no-comma (operand.AddrPCRelative (pos zero)) = (refl, (refl, tt))
   no-comma (operand.AddrPCRelative (pos (suc n))) = (refl, (refl, (refl, lacks-decimal (suc n))))
   no-comma (operand.AddrPCRelative (negsuc n)) = (refl, (refl, (refl, lacks-decimal (suc n))))
-  no-comma (operand.AddrAbsolute n) = (refl, digits-lack 44 (omega arith) 16 8 n)
+  no-comma (operand.AddrProgram n) = (refl, lacks-hexadecimal n)
+  no-comma (operand.AddrData n) = (refl, lacks-hexadecimal n)
+  no-comma (operand.AddrIO n) = (refl, lacks-hexadecimal n)
   no-comma (operand.BitIndex n) = lacks-decimal n

@@ -53,7 +53,9 @@ no-text operand.Nothing e = refl
 no-text (operand.Register r) e = cc
 no-text (operand.ImmediateU8 n) e = cc
 no-text (operand.AddrPCRelative z) e = cc
-no-text (operand.AddrAbsolute n) e = cc
+no-text (operand.AddrProgram n) e = cc
+no-text (operand.AddrData n) e = cc
+no-text (operand.AddrIO n) e = cc
 no-text (operand.BitIndex n) e = cc
 
 -- where the first operand is missing, the second is too

@@ -1,6 +1,5 @@
 -- An operand read off its text. Of a text that no operand has, it is some operand: whoever reads compares what that prints as.
 use Prim.Native.Nat.{ℕ, _/_, _%_}
-use mathlib.Core.Bool.{Bool}
 use mathlib.Core.List.{List}
 use lib.Dec.{eqb, ltb}
 use lib.IntN.{ℤ, pos, negℤ}
@@ -37,16 +36,24 @@ distanceAs s =
     let n = valueFrom 10 0 (drop 1 s) % 32768 in
     pick (eqb (getD s 0 0) 45) (negℤ (pos n)) (pos n)
 
--- by its first byte c and those behind it, t; a number behind `$` is an immediate if m says so, else an address
-abbrev pub chosen : Bool → List ℕ → ℕ → List ℕ → Operand
-chosen m s c t =
+-- a number behind `$`, by its class
+unfoldable pub dollarAs : ℕ → ℕ → Operand
+dollarAs k n =
+    pick (eqb k 18) (operand.AddrProgram n)
+    (pick (eqb k 19) (operand.AddrData (n % 65536))
+    (pick (eqb k 20) (operand.AddrIO (n % 256))
+    (operand.ImmediateU8 (n % 256))))
+
+-- by its first byte c and those behind it, t; k is the class of a number behind `$`
+abbrev pub chosen : ℕ → List ℕ → ℕ → List ℕ → Operand
+chosen k s c t =
     pick (eqb c 114) (operand.Register (registerAs t))
-    (pick (eqb c 36) (pick m (operand.ImmediateU8 (valueFrom 16 0 t % 256)) (operand.AddrAbsolute (valueFrom 16 0 t)))
+    (pick (eqb c 36) (dollarAs k (valueFrom 16 0 t))
     (pick (eqb c 112) (operand.AddrPCRelative (distanceAs (drop 1 t)))
     (pick (eqb c 45) (operand.Register (register.IndexRegister (indexAs (getD t 0 0)) modifier.PreDecrement))
     (pick (eqb c 0) operand.Nothing
     (pick (ltb c 65) (operand.BitIndex (valueFrom 10 0 s % 256))
     (operand.Register (register.IndexRegister (indexAs c) (changeAs t))))))))
 
-unfoldable pub operandAs : Bool → List ℕ → Operand
-operandAs m s = chosen m s (getD s 0 0) (drop 1 s)
+unfoldable pub operandAs : ℕ → List ℕ → Operand
+operandAs k s = chosen k s (getD s 0 0) (drop 1 s)

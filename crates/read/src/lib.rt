@@ -3,8 +3,8 @@ ghost use mathlib.Core.Path.{_≡_};
 ghost use Prim.Native.Nat.{_<_, _≤_};
 ghost use Rattle.text.specs.Names.{nameBytes, nameLengths, nameAt};
 ghost use Rattle.cut.specs.Cut.{same};
-ghost use Rattle.read.specs.Operands.{indexAs, changeAs, registerAs, distanceAs, operandAs};
-ghost use Rattle.read.specs.Line.{numberAs, opcodeFrom, immediateSecond, lineAs};
+ghost use Rattle.read.specs.Operands.{indexAs, changeAs, registerAs, distanceAs, dollarAs, operandAs};
+ghost use Rattle.read.specs.Line.{numberAs, opcodeFrom, classFor, lineAs};
 use avr::IndexRegister;
 use avr::IndexRegisterModifier;
 use avr::Instruction;
@@ -64,9 +64,21 @@ fn distance_as(s: &[u8]) -> i16
     n
 }
 
-// An operand; a number behind `$` is an immediate if it is said to be one, else an address.
-pub fn operand_as(s: &[u8], immediate: bool) -> Operand
-    ensures { λ r. ⌜ r ≡ operandAs immediate (now (s .entry)) ⌝ }
+// A number behind `$`, by its class: an address of the program, of data or of I/O, or an immediate.
+fn dollar_as(class: u8, n: u32) -> Operand
+    ensures { λ r. ⌜ r ≡ dollarAs class n ⌝ }
+{
+    match class {
+        18 => Operand::AddrProgram(n),
+        19 => Operand::AddrData((n % 65536) as u16),
+        20 => Operand::AddrIO((n % 256) as u8),
+        _ => Operand::ImmediateU8((n % 256) as u8),
+    }
+}
+
+// An operand; `class` is that of a number behind `$`.
+pub fn operand_as(s: &[u8], class: u8) -> Operand
+    ensures { λ r. ⌜ r ≡ operandAs class (now (s .entry)) ⌝ }
 {
     let c = cut::head(s);
     let t = cut::tail(s);
@@ -74,11 +86,7 @@ pub fn operand_as(s: &[u8], immediate: bool) -> Operand
         return Operand::Register(register_as(t));
     }
     if c == b'$' {
-        let n = value(t, 16);
-        if immediate {
-            return Operand::ImmediateU8((n % 256) as u8);
-        }
-        return Operand::AddrAbsolute(n);
+        return dollar_as(class, value(t, 16));
     }
     if c == b'p' {
         return Operand::AddrPCRelative(distance_as(cut::tail(t)));
@@ -135,13 +143,16 @@ fn opcode_from(n: usize) -> Opcode
     avr::opcode_of((6 + k + (k + 1) / 2) as u8, avr::sreg_of(bit))
 }
 
-fn immediate_second(n: usize) -> bool
-    ensures { λ r. ⌜ r ≡ immediateSecond n ⌝ }
+// The class of a number behind `$`, by the mnemonic's number.
+fn class_for(n: usize) -> u8
+    ensures { λ r. ⌜ r ≡ classFor n ⌝ }
 {
-    if n == 31 {
-        return false;
+    match n {
+        13 | 33 => 18,
+        40 | 72 => 19,
+        14 | 31 | 52 | 62..=64 => 20,
+        _ => 15,
     }
-    n != 40
 }
 
 // The record of a line, of the given length. Of a line that is no record's text, it is some record: see what that prints as.
@@ -151,8 +162,9 @@ pub fn line_as(line: &[u8], length: u8) -> Instruction
     let n = number_as(cut::before(line, b' '));
     let rest = cut::behind(line, b' ');
     let opcode = opcode_from(n);
-    let first = operand_as(cut::before(rest, b','), n == 21);
-    let second = operand_as(cut::tail(cut::behind(rest, b',')), immediate_second(n));
+    let class = class_for(n);
+    let first = operand_as(cut::before(rest, b','), class);
+    let second = operand_as(cut::tail(cut::behind(rest, b',')), class);
     Instruction {
         opcode,
         first,

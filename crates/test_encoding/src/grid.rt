@@ -9,7 +9,7 @@ use avr::Register;
 use avr::SREGBit;
 use avr::Target;
 
-fn reg(n: u8) -> Operand {
+pub(crate) fn reg(n: u8) -> Operand {
     Operand::Register(Register::Register(n))
 }
 
@@ -28,7 +28,7 @@ fn y() -> Operand {
     Operand::Register(Register::IndexRegister(IndexRegister::Y, IndexRegisterModifier::Unchanged))
 }
 
-fn of(opcode: Opcode, first: Operand, second: Operand, length: u8) -> Instruction {
+pub(crate) fn of(opcode: Opcode, first: Operand, second: Operand, length: u8) -> Instruction {
     Instruction {
         opcode,
         first,
@@ -42,15 +42,18 @@ fn print_byte(b: u8) {
     io::print_hex(1, b as u64, 2);
 }
 
-// Prints what was tried, for which target, and the answer.
-fn tried(what: &[u8], x: Instruction, flag: bool) {
+// Prints what is tried, and for which target.
+pub(crate) fn said(what: &[u8], flag: bool) {
     if flag {
         io::write_all(1, b"true: ");
     } else {
         io::write_all(1, b"false: ");
     }
     io::write_all(1, what);
-    io::write_all(1, b":");
+}
+
+// Prints what encoding answers.
+pub(crate) fn answered(x: Instruction, flag: bool) {
     let target = Target {
         has_16_bit_lds_sts: flag,
     };
@@ -70,6 +73,15 @@ fn tried(what: &[u8], x: Instruction, flag: bool) {
             io::write_all(1, b" refused");
         }
     }
+}
+
+fn tried(what: &[u8], x: Instruction, flag: bool) {
+    said(what, flag);
+    io::write_all(1, b":");
+    answered(x, flag);
+    let target = Target {
+        has_16_bit_lds_sts: flag,
+    };
     if encode::is_record(x, target) {
         io::write_all(1, b", a record\n");
     } else {
@@ -99,7 +111,7 @@ pub(crate) fn displacements() {
 }
 
 pub(crate) fn short_addresses() {
-    let a = Operand::AddrAbsolute(0x80);
+    let a = Operand::AddrData(0x80);
     tried(
         b"lds r16, $80 in 2 bytes",
         of(Opcode::LDS, reg(16), a, 2),
@@ -125,25 +137,23 @@ pub(crate) fn short_addresses() {
         of(Opcode::STS, a, reg(16), 2),
         true,
     );
-    let low = Operand::AddrAbsolute(0x3F);
+    let low = Operand::AddrData(0x3F);
     tried(
         b"lds r16, $3F in 2 bytes",
         of(Opcode::LDS, reg(16), low, 2),
         true,
     );
-    let high = Operand::AddrAbsolute(0xC0);
+    let high = Operand::AddrData(0xC0);
     tried(
         b"lds r16, $C0 in 2 bytes",
         of(Opcode::LDS, reg(16), high, 2),
         true,
     );
-    let wide = Operand::AddrAbsolute(0x10000);
-    tried(b"lds r16, $10000", of(Opcode::LDS, reg(16), wide, 4), true);
 }
 
 pub(crate) fn lengths() {
     let none = Operand::Nothing;
-    let a = Operand::AddrAbsolute(0x80);
+    let a = Operand::AddrData(0x80);
     tried(
         b"lds r16, $80 in 4 bytes",
         of(Opcode::LDS, reg(16), a, 4),
@@ -157,17 +167,18 @@ pub(crate) fn lengths() {
     tried(b"nop in 2 bytes", of(Opcode::NOP, none, none, 2), false);
     tried(b"nop in 4 bytes", of(Opcode::NOP, none, none, 4), false);
     tried(b"nop in 0 bytes", of(Opcode::NOP, none, none, 0), true);
-    tried(b"call $80 in 4 bytes", of(Opcode::CALL, a, none, 4), true);
-    tried(b"call $80 in 2 bytes", of(Opcode::CALL, a, none, 2), true);
+    let p = Operand::AddrProgram(0x80);
+    tried(b"call $80 in 4 bytes", of(Opcode::CALL, p, none, 4), true);
+    tried(b"call $80 in 2 bytes", of(Opcode::CALL, p, none, 2), true);
 }
 
 pub(crate) fn program_addresses() {
     let none = Operand::Nothing;
-    let odd = Operand::AddrAbsolute(1);
+    let odd = Operand::AddrProgram(1);
     tried(b"call $1", of(Opcode::CALL, odd, none, 4), false);
-    let last = Operand::AddrAbsolute(0x7FFFFE);
+    let last = Operand::AddrProgram(0x7FFFFE);
     tried(b"call $7FFFFE", of(Opcode::CALL, last, none, 4), false);
-    let past = Operand::AddrAbsolute(0x800000);
+    let past = Operand::AddrProgram(0x800000);
     tried(b"call $800000", of(Opcode::CALL, past, none, 4), false);
     tried(b"jmp $800000", of(Opcode::JMP, past, none, 4), true);
 }
@@ -247,6 +258,6 @@ pub(crate) fn numbers() {
     tried(b"bld r0, 7", of(Opcode::BLD, reg(0), seven, 2), true);
     let eight = Operand::BitIndex(8);
     tried(b"bld r0, 8", of(Opcode::BLD, reg(0), eight, 2), true);
-    let port = Operand::AddrAbsolute(64);
+    let port = Operand::AddrIO(64);
     tried(b"in r0, $40", of(Opcode::IN, reg(0), port, 2), true);
 }

@@ -1,5 +1,5 @@
 // A test: decode, encode and decode again over every first word of both targets, and records that must be refused beside their nearest
-// neighbours that must not. It prints what it tried.
+// neighbours that must not, addresses of the wrong kind among them. It prints what it tried.
 use avr::Decoded;
 use avr::Encoded;
 use avr::Instruction;
@@ -8,6 +8,7 @@ use avr::Target;
 use encode::numbers::numbers_of;
 
 mod grid;
+mod spaces;
 
 fn same(a: Numbers, b: Numbers) -> bool {
     if a.opcode.code != b.opcode.code || a.opcode.bit != b.opcode.bit || a.length != b.length {
@@ -133,4 +134,6 @@ fn main() {
     grid::registers();
     grid::other_operands();
     grid::numbers();
+    spaces::all(false);
+    spaces::all(true);
 }

@@ -123,7 +123,7 @@ pub(crate) fn put_kind(kind: u8, w: u16, e: u16, out: &mut [u8], o: usize) -> us
         15 => put_near(&mut *out, o, 64, k7(w) as u16),
         16 => put_address(&mut *out, o, a5(w) as u32),
         17 => put_address(&mut *out, o, a6(w) as u32),
-        18 => put_address(&mut *out, o, low_address(s7(w))),
+        18 => put_address(&mut *out, o, low_address(s7(w)) as u32),
         19 => put_address(&mut *out, o, e as u32),
         20 => put_address(&mut *out, o, far_address(f6(w), e)),
         21 => put_displaced(&mut *out, o, b'z', q6(w)),

@@ -3,14 +3,14 @@ use mathlib.Core.Path.{_≡_, _∙_}
 use mir.Syntax.{w16}
 use mir.Val.{toZ, ofZ}
 use borrow.Author.Needs.{needs}
-use Rattle.read.proofs.Chosen.{is-register, is-immediate, is-absolute, is-relative, is-decrement, is-nothing, is-bit, is-index}
+use Rattle.read.proofs.Chosen.{is-register, is-dollar, is-relative, is-decrement, is-nothing, is-bit, is-index}
 use Rattle.read.proofs.operand_as.Statement.{statement}
 use Rattle.read.proofs.operand_as.Tie as tie
 
 returns : tie.Need-returns
 returns c =
     let s = c .before .before .before .before .before .args in
-    is-register (s .immediate) (s .s .now) _ _ (c .before .before .before .head .ensures) (c .before .before .tail .ensures)
+    is-register (s .class) (s .s .now) _ _ (c .before .before .before .head .ensures) (c .before .before .tail .ensures)
     (c .before .if1 .taken) _ (c .register-as .ensures)
 
 returns-2 : tie.Need-returns-2
@@ -20,87 +20,76 @@ returns-2 c =
     let after-tail = after-if1 .before in
     let after-head = after-tail .before in
     let s = after-head .before .before .args in
-    is-immediate (s .immediate) (s .s .now) _ _ (after-head .head .ensures) (after-tail .tail .ensures)
+    is-dollar (s .class) (s .s .now) _ _ (after-head .head .ensures) (after-tail .tail .ensures)
     (after-if1 .if1 .left)
-    (after-if2 .if2 .taken) (c .if3 .taken) _ (c .before .value .ensures .0)
+    (after-if2 .if2 .taken) _ (c .before .value .ensures .0) _ (c .dollar-as .ensures)
 
 returns-3 : tie.Need-returns-3
 returns-3 c =
-    let after-if2 = c .before .before in
-    let after-if1 = after-if2 .before in
-    let after-tail = after-if1 .before in
-    let after-head = after-tail .before in
-    let s = after-head .before .before .args in
-    is-absolute (s .immediate) (s .s .now) _ _ (after-head .head .ensures) (after-tail .tail .ensures)
-    (after-if1 .if1 .left)
-    (after-if2 .if2 .taken) (c .if3 .left) _ (c .before .value .ensures .0)
-
-returns-4 : tie.Need-returns-4
-returns-4 c =
-    let after-if4 = c .before .before in
-    let after-if2 = after-if4 .before in
+    let after-if3 = c .before .before in
+    let after-if2 = after-if3 .before in
     let after-if1 = after-if2 .before in
     let after-tail = after-if1 .before in
     let after-head = after-tail .before in
     let s = after-head .before .before .args in
     let z : toZ w16 (ofZ w16 (c .distance-as .result)) ≡ c .distance-as .result = search needs in
-    is-relative (s .immediate) (s .s .now) _ _ (after-head .head .ensures) (after-tail .tail .ensures)
+    is-relative (s .class) (s .s .now) _ _ (after-head .head .ensures) (after-tail .tail .ensures)
     (after-if1 .if1 .left) (after-if2 .if2 .left)
-    (after-if4 .if4 .taken) _ _ (c .before .tail2 .ensures) (z ∙ c .distance-as .ensures)
+    (after-if3 .if3 .taken) _ _ (c .before .tail2 .ensures) (z ∙ c .distance-as .ensures)
+
+returns-4 : tie.Need-returns-4
+returns-4 c =
+    let after-if4 = c .before .before in
+    let after-if3 = after-if4 .before in
+    let after-if2 = after-if3 .before in
+    let after-if1 = after-if2 .before in
+    let after-tail = after-if1 .before in
+    let after-head = after-tail .before in
+    let s = after-head .before .before .args in
+    is-decrement (s .class) (s .s .now) _ _ (after-head .head .ensures) (after-tail .tail .ensures)
+    (after-if1 .if1 .left) (after-if2 .if2 .left) (after-if3 .if3 .left)
+    (after-if4 .if4 .taken) _ _ (c .before .head2 .ensures) (c .index-as .ensures)
 
 returns-5 : tie.Need-returns-5
 returns-5 c =
-    let after-if5 = c .before .before in
-    let after-if4 = after-if5 .before in
-    let after-if2 = after-if4 .before in
+    let after-if3 = c .before .before in
+    let after-if2 = after-if3 .before in
     let after-if1 = after-if2 .before in
     let after-tail = after-if1 .before in
     let after-head = after-tail .before in
     let s = after-head .before .before .args in
-    is-decrement (s .immediate) (s .s .now) _ _ (after-head .head .ensures) (after-tail .tail .ensures)
-    (after-if1 .if1 .left) (after-if2 .if2 .left) (after-if4 .if4 .left)
-    (after-if5 .if5 .taken) _ _ (c .before .head2 .ensures) (c .index-as .ensures)
+    is-nothing (s .class) (s .s .now) _ _ (after-head .head .ensures) (after-tail .tail .ensures)
+    (after-if1 .if1 .left) (after-if2 .if2 .left) (after-if3 .if3 .left) (c .before .if4 .left)
+    (c .if5 .taken)
 
 returns-6 : tie.Need-returns-6
 returns-6 c =
-    let after-if4 = c .before .before in
-    let after-if2 = after-if4 .before in
+    let after-if5 = c .before .before in
+    let after-if4 = after-if5 .before in
+    let after-if3 = after-if4 .before in
+    let after-if2 = after-if3 .before in
     let after-if1 = after-if2 .before in
     let after-tail = after-if1 .before in
     let after-head = after-tail .before in
     let s = after-head .before .before .args in
-    is-nothing (s .immediate) (s .s .now) _ _ (after-head .head .ensures) (after-tail .tail .ensures)
-    (after-if1 .if1 .left) (after-if2 .if2 .left) (after-if4 .if4 .left) (c .before .if5 .left)
-    (c .if6 .taken)
+    is-bit (s .class) (s .s .now) _ _ (after-head .head .ensures) (after-tail .tail .ensures)
+    (after-if1 .if1 .left) (after-if2 .if2 .left) (after-if3 .if3 .left) (after-if4 .if4 .left) (after-if5 .if5 .left)
+    (c .before .if6 .taken) _ (c .value2 .ensures .0)
 
 returns-7 : tie.Need-returns-7
 returns-7 c =
     let after-if6 = c .before .before in
     let after-if5 = after-if6 .before in
     let after-if4 = after-if5 .before in
-    let after-if2 = after-if4 .before in
+    let after-if3 = after-if4 .before in
+    let after-if2 = after-if3 .before in
     let after-if1 = after-if2 .before in
     let after-tail = after-if1 .before in
     let after-head = after-tail .before in
     let s = after-head .before .before .args in
-    is-bit (s .immediate) (s .s .now) _ _ (after-head .head .ensures) (after-tail .tail .ensures)
-    (after-if1 .if1 .left) (after-if2 .if2 .left) (after-if4 .if4 .left) (after-if5 .if5 .left) (after-if6 .if6 .left)
-    (c .before .if7 .taken) _ (c .value2 .ensures .0)
-
-returns-8 : tie.Need-returns-8
-returns-8 c =
-    let after-if7 = c .before .before in
-    let after-if6 = after-if7 .before in
-    let after-if5 = after-if6 .before in
-    let after-if4 = after-if5 .before in
-    let after-if2 = after-if4 .before in
-    let after-if1 = after-if2 .before in
-    let after-tail = after-if1 .before in
-    let after-head = after-tail .before in
-    let s = after-head .before .before .args in
-    is-index (s .immediate) (s .s .now) _ _ (after-head .head .ensures) (after-tail .tail .ensures)
-    (after-if1 .if1 .left) (after-if2 .if2 .left) (after-if4 .if4 .left) (after-if5 .if5 .left) (after-if6 .if6 .left)
-    (after-if7 .if7 .left) _ _ (c .before .index-as2 .ensures) (c .change-as .ensures)
+    is-index (s .class) (s .s .now) _ _ (after-head .head .ensures) (after-tail .tail .ensures)
+    (after-if1 .if1 .left) (after-if2 .if2 .left) (after-if3 .if3 .left) (after-if4 .if4 .left) (after-if5 .if5 .left)
+    (after-if6 .if6 .left) _ _ (c .before .index-as2 .ensures) (c .change-as .ensures)
 
 pub operand-as-spec : {M : Type 1} → statement M
 operand-as-spec =
@@ -111,19 +100,18 @@ operand-as-spec =
     (λ c κs. search needs)
     returns
     (λ c κs. search needs)
-    (λ c. search needs)
+    (λ c κs. search needs)
     returns-2
+    (λ c κs. search needs)
+    (λ c κs. search needs)
     returns-3
     (λ c κs. search needs)
     (λ c κs. search needs)
     returns-4
-    (λ c κs. search needs)
-    (λ c κs. search needs)
     returns-5
-    returns-6
     (λ c κs. search needs)
     (λ c. search needs)
-    returns-7
+    returns-6
     (λ c κs. search needs)
     (λ c κs. search needs)
-    returns-8)
+    returns-7)
