@@ -58,17 +58,19 @@ starred =
     case (0x08 ∷ 0xF8 ∷ []) true (noSuchWord 0xF808) ∷
     case (0x08 ∷ 0xFC ∷ []) false (noSuchWord 0xFC08) ∷
     case (0x08 ∷ 0xFC ∷ []) true (noSuchWord 0xFC08) ∷
-    case (0x00 ∷ 0xA0 ∷ []) true (prints 2 "lds r16, $80") ∷
+    case (0x00 ∷ 0xA0 ∷ []) true (prints 2 "lds r16, $0080") ∷
     case (0x00 ∷ 0xA0 ∷ []) false (prints 2 "ldd r0, z+32") ∷
+    -- not starred, but beside `lds` and `call` it shows the third kind of address
+    case (0x05 ∷ 0xB0 ∷ []) false (prints 2 "in r0, $05") ∷
     case (0xFF ∷ 0x95 ∷ 0xFF ∷ 0xFF ∷ []) false (prints 4 "call $7FFFFE") ∷
     case (0x0E ∷ 0x94 ∷ []) false (short 4) ∷
     -- 21 bytes: room 21 is enough, room 20 is not
     within 21 (0xFF ∷ 0x01 ∷ []) false (prints 2 "movw r31:r30, r31:r30") ∷
     within 20 (0xFF ∷ 0x01 ∷ []) false (noRoom 21) ∷
-    -- the strings of the reverse reading of `lds r16, $40`
-    case (0x00 ∷ 0xA1 ∷ []) true (prints 2 "lds r16, $40") ∷
-    case (0x00 ∷ 0x91 ∷ 0x40 ∷ 0x00 ∷ []) true (prints 4 "lds r16, $40") ∷
-    case (0x00 ∷ 0x91 ∷ 0x40 ∷ 0x00 ∷ []) false (prints 4 "lds r16, $40") ∷
+    -- the strings of the reverse reading of `lds r16, $0040`
+    case (0x00 ∷ 0xA1 ∷ []) true (prints 2 "lds r16, $0040") ∷
+    case (0x00 ∷ 0x91 ∷ 0x40 ∷ 0x00 ∷ []) true (prints 4 "lds r16, $0040") ∷
+    case (0x00 ∷ 0x91 ∷ 0x40 ∷ 0x00 ∷ []) false (prints 4 "lds r16, $0040") ∷
     []
 
 pub starred-hold : map (λ c. shown (c .room) (decodes (c .flag) (c .bytes))) starred ≡ map (λ c. c .answer) starred
