@@ -62,7 +62,7 @@ fn compared(text: &str, image: &[u8]) -> String {
         if differences::bit_3_set(word, &line[8..]) {
             writeln!(out, "{at:06X}: .word ${word:04X}").unwrap();
         } else {
-            writeln!(out, "{line}").unwrap();
+            writeln!(out, "{}{}", &line[..8], differences::padded(&line[8..])).unwrap();
         }
     }
     out
@@ -123,8 +123,8 @@ fn seconds(mut run: impl FnMut()) -> f64 {
     start.elapsed().as_secs_f64()
 }
 
-fn reverse_rate(listing: &str, flag: bool) -> f64 {
-    let lines: Vec<&[u8]> = listing.lines().filter(|l| !l[8..].starts_with('.')).map(|l| l[8..].as_bytes()).take(200_000).collect();
+fn reverse_rate(listing: &[u8], flag: bool) -> f64 {
+    let lines: Vec<&[u8]> = listing.split(|&b| b == b'\n').filter_map(|l| l.get(8..)).filter(|l| l[0] != b'.').take(200_000).collect();
     let mut out = [0u8; 16];
     let mut found = 0u64;
     let mut least = f64::MAX;
@@ -175,7 +175,7 @@ fn main() {
             let rate = |t: f64| image.len() as f64 / t / 1e6;
             println!("{:<26}{:>8}{:>12.1}{:>12.1}{:>9.2}", name, flag, rate(a), rate(b), a / b);
             if name == "random words" {
-                println!("{:<26}{:>8}{:>24.0} lines/s", "  reverse reading of it", flag, reverse_rate(&text, flag));
+                println!("{:<26}{:>8}{:>24.0} lines/s", "  reverse reading of it", flag, reverse_rate(&out[..n], flag));
                 if let (false, Some(t)) = (flag, objdump(&image)) {
                     println!("{:<26}{:>8}{:>24.1} MB/s", "  avr-objdump on it", "", rate(t));
                 }

@@ -65,16 +65,18 @@ starred =
     case (0x00 ∷ 0xF8 ∷ []) either (prints 2 "bld r0, 0") ∷
     case (0x08 ∷ 0xF8 ∷ []) either (noSuchWord 0xF808) ∷
     case (0x08 ∷ 0xFC ∷ []) either (noSuchWord 0xFC08) ∷
-    case (0x00 ∷ 0xA0 ∷ []) (only true) (prints 2 "lds r16, $80") ∷
+    case (0x00 ∷ 0xA0 ∷ []) (only true) (prints 2 "lds r16, $0080") ∷
     case (0x00 ∷ 0xA0 ∷ []) (only false) (prints 2 "ldd r0, z+32") ∷
+    -- not starred, but beside `lds` and `call` it shows the third kind of address
+    case (0x05 ∷ 0xB0 ∷ []) either (prints 2 "in r0, $05") ∷
     case (0xFF ∷ 0x95 ∷ 0xFF ∷ 0xFF ∷ []) either (prints 4 "call $7FFFFE") ∷
     case (0x0E ∷ 0x94 ∷ []) either (short 4) ∷
     -- 21 bytes: room 21 is enough, room 20 is not
     within 21 (0xFF ∷ 0x01 ∷ []) either (prints 2 "movw r31:r30, r31:r30") ∷
     within 20 (0xFF ∷ 0x01 ∷ []) either (noRoom 21) ∷
-    -- the strings of the reverse reading of `lds r16, $40`
-    case (0x00 ∷ 0xA1 ∷ []) (only true) (prints 2 "lds r16, $40") ∷
-    case (0x00 ∷ 0x91 ∷ 0x40 ∷ 0x00 ∷ []) either (prints 4 "lds r16, $40") ∷
+    -- the strings of the reverse reading of `lds r16, $0040`
+    case (0x00 ∷ 0xA1 ∷ []) (only true) (prints 2 "lds r16, $0040") ∷
+    case (0x00 ∷ 0x91 ∷ 0x40 ∷ 0x00 ∷ []) either (prints 4 "lds r16, $0040") ∷
     []
 
 -- what the definitions give for a case's targets, and what it says

@@ -1,4 +1,4 @@
--- The text of a record, as the source prints it.
+-- The text of a record: as the source prints it, but for padded addresses.
 use Prim.Native.Nat.{ℕ, zero, suc, _+_, _*_, _/_, _%_}
 use Prim.Native.Char.{code}
 use Prim.Native.String.{String}
@@ -189,6 +189,7 @@ relativeText (negsuc n) = chars "pc-" ++ decimal (suc n)
 unfoldable pub immediateText : ℕ → List ℕ
 immediateText n = chars "$" ++ padded 16 2 n
 
+-- an address of the program; those of data and of I/O have a fixed number of digits
 unfoldable pub addressText : ℕ → List ℕ
 addressText n = chars "$" ++ hexadecimal n
 
@@ -198,8 +199,8 @@ operandText (operand.Register r) = registerText r
 operandText (operand.ImmediateU8 n) = immediateText n
 operandText (operand.AddrPCRelative z) = relativeText z
 operandText (operand.AddrProgram n) = addressText n
-operandText (operand.AddrData n) = addressText n
-operandText (operand.AddrIO n) = addressText n
+operandText (operand.AddrData n) = chars "$" ++ padded 16 4 n
+operandText (operand.AddrIO n) = chars "$" ++ padded 16 2 n
 operandText (operand.BitIndex n) = decimal n
 
 abbrev pub isNothing : Operand → Bool

@@ -17,7 +17,7 @@ use Rattle.avr.specs.declared.Register.the-variants as register
 use Rattle.avr.specs.declared.Operand.{Operand}
 use Rattle.avr.specs.declared.Operand.the-variants as operand
 use Rattle.manual.specs.Choice.{pick}
-use Rattle.manual.specs.Text.{digit, digits, decimal, hexadecimal, registerText, relativeText, immediateText, addressText, operandText}
+use Rattle.manual.specs.Text.{digit, digits, decimal, registerText, relativeText, immediateText, addressText, operandText}
 use Rattle.cut.specs.Cut.{valueFrom}
 use Rattle.cut.proofs.Parts.{Lacks, up-seam, past-seam, up-all, lacks-both}
 use Rattle.cut.proofs.Digits.{digits-back, padded-back, digits-lack, padded-lack, decimal-lacks}
@@ -45,9 +45,6 @@ Spelled m (operand.BitIndex n) = n < 10
 
 dec-back : (n : ℕ) → n < 100000 → valueFrom 10 0 (decimal n) ≡ n
 dec-back n h = digits-back 10 (omega arith) (omega arith) 5 n h (omega arith)
-
-hex-back : (n : ℕ) → n < 16777216 → valueFrom 16 0 (hexadecimal n) ≡ n
-hex-back n h = digits-back 16 (omega arith) (omega arith) 8 n (omega arith) h
 
 some-digit : (b k n : ℕ) → 1 ≤ length (digits b (suc k) n)
 unfolding digits
@@ -118,9 +115,10 @@ operand-back m (operand.ImmediateU8 n) h =
 operand-back m (operand.AddrPCRelative (pos zero)) h = ap operand.AddrPCRelative (distance-back (pos zero) h)
 operand-back m (operand.AddrPCRelative (pos (suc n))) h = ap operand.AddrPCRelative (distance-back (pos (suc n)) h)
 operand-back m (operand.AddrPCRelative (negsuc n)) h = ap operand.AddrPCRelative (distance-back (negsuc n) h)
-operand-back m (operand.AddrProgram n) h = rw (h .0, hex-back n (h .1))
-operand-back m (operand.AddrData n) h = rw (h .0, hex-back n (omega (arith, h .1))) (ap operand.AddrData (mod-eq-of-lt (h .1)))
-operand-back m (operand.AddrIO n) h = rw (h .0, hex-back n (omega (arith, h .1))) (ap operand.AddrIO (mod-eq-of-lt (h .1)))
+operand-back m (operand.AddrProgram n) h =
+    rw (h .0, digits-back 16 (omega arith) (omega arith) 8 n (omega (arith, h .1)) (h .1))
+operand-back m (operand.AddrData n) h = rw (h .0, padded-back 16 (omega arith) (omega arith) 4 n (h .1) (omega (arith, h .1))) (ap operand.AddrData (mod-eq-of-lt (h .1)))
+operand-back m (operand.AddrIO n) h = rw (h .0, padded-back 16 (omega arith) (omega arith) 2 n (h .1) (omega (arith, h .1))) (ap operand.AddrIO (mod-eq-of-lt (h .1)))
 operand-back m (operand.BitIndex n) h = bit-back m n h
 
 -- ---- no comma
@@ -128,9 +126,6 @@ operand-back m (operand.BitIndex n) h = bit-back m n h
 module _ where
   lacks-decimal : (n : ℕ) → Lacks 44 (decimal n)
   lacks-decimal n = digits-lack 44 (omega arith) 10 5 n
-
-  lacks-hexadecimal : (n : ℕ) → Lacks 44 (hexadecimal n)
-  lacks-hexadecimal n = digits-lack 44 (omega arith) 16 8 n
 
   pub no-comma : (o : Operand) → Lacks 44 (operandText o)
   unfolding operandText registerText immediateText addressText relativeText
@@ -154,7 +149,7 @@ module _ where
   no-comma (operand.AddrPCRelative (pos zero)) = (refl, (refl, tt))
   no-comma (operand.AddrPCRelative (pos (suc n))) = (refl, (refl, (refl, lacks-decimal (suc n))))
   no-comma (operand.AddrPCRelative (negsuc n)) = (refl, (refl, (refl, lacks-decimal (suc n))))
-  no-comma (operand.AddrProgram n) = (refl, lacks-hexadecimal n)
-  no-comma (operand.AddrData n) = (refl, lacks-hexadecimal n)
-  no-comma (operand.AddrIO n) = (refl, lacks-hexadecimal n)
+  no-comma (operand.AddrProgram n) = (refl, digits-lack 44 (omega arith) 16 8 n)
+  no-comma (operand.AddrData n) = (refl, padded-lack 44 (omega arith) 16 4 n)
+  no-comma (operand.AddrIO n) = (refl, padded-lack 44 (omega arith) 16 2 n)
   no-comma (operand.BitIndex n) = lacks-decimal n

@@ -113,39 +113,39 @@ pub(crate) fn displacements() {
 pub(crate) fn short_addresses() {
     let a = Operand::AddrData(0x80);
     tried(
-        b"lds r16, $80 in 2 bytes",
+        b"lds r16, $0080 in 2 bytes",
         of(Opcode::LDS, reg(16), a, 2),
         false,
     );
     tried(
-        b"lds r16, $80 in 2 bytes",
+        b"lds r16, $0080 in 2 bytes",
         of(Opcode::LDS, reg(16), a, 2),
         true,
     );
     tried(
-        b"lds r15, $80 in 2 bytes",
+        b"lds r15, $0080 in 2 bytes",
         of(Opcode::LDS, reg(15), a, 2),
         true,
     );
     tried(
-        b"sts $80, r16 in 2 bytes",
+        b"sts $0080, r16 in 2 bytes",
         of(Opcode::STS, a, reg(16), 2),
         false,
     );
     tried(
-        b"sts $80, r16 in 2 bytes",
+        b"sts $0080, r16 in 2 bytes",
         of(Opcode::STS, a, reg(16), 2),
         true,
     );
     let low = Operand::AddrData(0x3F);
     tried(
-        b"lds r16, $3F in 2 bytes",
+        b"lds r16, $003F in 2 bytes",
         of(Opcode::LDS, reg(16), low, 2),
         true,
     );
     let high = Operand::AddrData(0xC0);
     tried(
-        b"lds r16, $C0 in 2 bytes",
+        b"lds r16, $00C0 in 2 bytes",
         of(Opcode::LDS, reg(16), high, 2),
         true,
     );
@@ -155,12 +155,12 @@ pub(crate) fn lengths() {
     let none = Operand::Nothing;
     let a = Operand::AddrData(0x80);
     tried(
-        b"lds r16, $80 in 4 bytes",
+        b"lds r16, $0080 in 4 bytes",
         of(Opcode::LDS, reg(16), a, 4),
         false,
     );
     tried(
-        b"lds r16, $80 in 3 bytes",
+        b"lds r16, $0080 in 3 bytes",
         of(Opcode::LDS, reg(16), a, 3),
         true,
     );

@@ -84,10 +84,10 @@ pub(crate) fn cases() {
     io::write_all(1, b"cases\n");
     each(
         b"\
-lds r16, $40\n\
-sts $40, r16\n\
-lds r15, $40\n\
-lds r16, $C0\n\
+lds r16, $0040\n\
+sts $0040, r16\n\
+lds r15, $0040\n\
+lds r16, $00C0\n\
 bld r0, 0\n\
 bst r31, 7\n\
 ldd r0, y+1\n\
@@ -100,12 +100,15 @@ spm z+\n\
 movw r31:r30, r31:r30\n\
 adiw r25:r24, $3F\n\
 call $7FFFFE\n\
+call $2468\n\
 jmp $0\n\
 rjmp pc\n\
 brlo pc+1\n\
 sei\n\
 des $0F\n\
-in r0, $3F\n\
+in r0, $05\n\
+out $3F, r31\n\
+sbi $05, 7\n\
 nop\n",
     );
 }
@@ -118,7 +121,16 @@ pub(crate) fn spellings() {
 ldi r16, $a\n\
 ldi r16, $0a\n\
 ldi r16, $00A\n\
+lds r16, $40\n\
 lds r16, $040\n\
+lds r16, $00040\n\
+sts $40, r16\n\
+in r0, $5\n\
+in r0, $005\n\
+out $03F, r31\n\
+sbi $5, 7\n\
+call $002468\n\
+jmp $00\n\
 rjmp pc+0\n\
 rjmp pc-0\n\
 rjmp pc+01\n\
@@ -177,7 +189,9 @@ out $3F, r0\n\
 out $40, r0\n\
 lds r16, $FFFF\n\
 lds r16, $10000\n\
+lds r16, $10040\n\
 lds r16, $1000040\n\
+in r0, $105\n\
 call $7FFFFF\n\
 call $800000\n",
     );

@@ -4,7 +4,7 @@ ghost use mathlib.Core.List.{_∷_, _++_};
 ghost use Prim.Native.Nat.{_+_, _*_, _<_, _≤_};
 ghost use lib.ListN.{length};
 ghost use Rattle.avr.specs.declared.Register.the-variants as register;
-ghost use Rattle.manual.specs.Text.{chars, decimal, registerText, relativeText, immediateText, addressText, operandText};
+ghost use Rattle.manual.specs.Text.{chars, padded, decimal, registerText, relativeText, addressText, operandText};
 ghost use Rattle.rows.specs.Kinds.{kindValue};
 ghost use Rattle.operands.specs.Signed.{signed};
 ghost use Rattle.put.specs.Put.{Put};
@@ -31,6 +31,7 @@ use put::put_byte;
 use put::put_decimal;
 use put::put_hex;
 use put::put_hex2;
+use put::put_hex4;
 use put::put_small;
 
 fn put_register(out: &mut [u8], o: usize, n: u8) -> usize
@@ -50,14 +51,25 @@ fn put_pair(out: &mut [u8], o: usize, n: u8) -> usize
     put_register(&mut *out, q, n * 2)
 }
 
-fn put_immediate(out: &mut [u8], o: usize, n: u8) -> usize
+// `$` and two digits: an immediate, or an address of I/O.
+fn put_dollar2(out: &mut [u8], o: usize, n: u8) -> usize
     requires { ⌜ o + 3 ≤ length (now out) ⌝ }
-    ensures { λ r. ⌜ Put (now (out .entry)) o (immediateText n) (now (out .exit)) r ⌝ }
+    ensures { λ r. ⌜ Put (now (out .entry)) o (chars "$" ++ padded 16 2 n) (now (out .exit)) r ⌝ }
 {
     let p = put_byte(&mut *out, o, b'$');
     put_hex2(&mut *out, p, n)
 }
 
+// `$` and four: an address of data.
+fn put_dollar4(out: &mut [u8], o: usize, n: u16) -> usize
+    requires { ⌜ o + 5 ≤ length (now out) ⌝ }
+    ensures { λ r. ⌜ Put (now (out .entry)) o (chars "$" ++ padded 16 4 n) (now (out .exit)) r ⌝ }
+{
+    let p = put_byte(&mut *out, o, b'$');
+    put_hex4(&mut *out, p, n)
+}
+
+// An address of the program.
 fn put_address(out: &mut [u8], o: usize, n: u32) -> usize
     requires { ⌜ (o + 7 ≤ length (now out)) × (n < 16777216) ⌝ }
     ensures { λ r. ⌜ Put (now (out .entry)) o (addressText n) (now (out .exit)) r ⌝ }
@@ -115,16 +127,16 @@ pub(crate) fn put_kind(kind: u8, w: u16, e: u16, out: &mut [u8], o: usize) -> us
         7 => put_pair(&mut *out, o, d4(w)),
         8 => put_pair(&mut *out, o, r4(w)),
         9 => put_pair(&mut *out, o, 12 + d2(w)),
-        10 => put_immediate(&mut *out, o, k8(w)),
-        11 => put_immediate(&mut *out, o, k6(w)),
-        12 => put_immediate(&mut *out, o, d4(w)),
+        10 => put_dollar2(&mut *out, o, k8(w)),
+        11 => put_dollar2(&mut *out, o, k6(w)),
+        12 => put_dollar2(&mut *out, o, d4(w)),
         13 => put_small(&mut *out, o, r3(w)),
         14 => put_near(&mut *out, o, 2048, k12(w)),
         15 => put_near(&mut *out, o, 64, k7(w) as u16),
-        16 => put_address(&mut *out, o, a5(w) as u32),
-        17 => put_address(&mut *out, o, a6(w) as u32),
-        18 => put_address(&mut *out, o, low_address(s7(w)) as u32),
-        19 => put_address(&mut *out, o, e as u32),
+        16 => put_dollar2(&mut *out, o, a5(w)),
+        17 => put_dollar2(&mut *out, o, a6(w)),
+        18 => put_dollar4(&mut *out, o, low_address(s7(w))),
+        19 => put_dollar4(&mut *out, o, e),
         20 => put_address(&mut *out, o, far_address(f6(w), e)),
         21 => put_displaced(&mut *out, o, b'z', q6(w)),
         22 => put_displaced(&mut *out, o, b'y', q6(w)),
