@@ -1,4 +1,4 @@
-mod Held
+pub mod Held
 pub mod States
 pub mod Lines
 pub mod Unique
