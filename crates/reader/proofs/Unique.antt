@@ -28,11 +28,11 @@ module _ (r : Reader) where
   pub rewind-unique : (a b : Reader) → a ≡ rewound r → b ≡ rewound r → a ≡ b
   rewind-unique = one-answer
 
-  pub take-unique : (l m : Line) (a b : Reader) → (l ≡ lineHere r) × (a ≡ after r) → (m ≡ lineHere r) × (b ≡ after r) → (l ≡ m) × (a ≡ b)
-  take-unique l m a b p q = (p .0 ∙ sym (q .0), p .1 ∙ sym (q .1))
-
   pub look-unique : (l m : Line) → l ≡ lineHere r → m ≡ lineHere r → l ≡ m
   look-unique = one-answer
+
+  pub pass-unique : (a b : Reader) → a ≡ after r → b ≡ after r → a ≡ b
+  pass-unique = one-answer
 
   pub count-unique : (m n : ℕ) → m ≡ countHere r → n ≡ countHere r → m ≡ n
   count-unique = one-answer
@@ -40,4 +40,4 @@ module _ (r : Reader) where
   pub line-unique : (out : List ℕ) (a b : LineWritten) (d e : List ℕ) → (ofLineWritten a ≡ writesHere r out) × (d ≡ leftHere r out)
       → (ofLineWritten b ≡ writesHere r out) × (e ≡ leftHere r out) → (a ≡ b) × (d ≡ e)
   line-unique out a b d e p q =
-      (write-line-unique (r .target .«has_16_bit_lds_sts») (now (r .image)) (r .at) (r .tail) out a b (p .0) (q .0), p .1 ∙ sym (q .1))
+      (write-line-unique (r .target .«has_16_bit_lds_sts») (now (r .image)) (r .place .at) (r .place .tail) out a b (p .0) (q .0), p .1 ∙ sym (q .1))

@@ -1,6 +1,6 @@
--- The line at a position of an image: one step of the walk, the count of lines, and the answers of a take case by case.
-use mathlib.Core.Path.{_≡_, refl, ap, _∙_}
-use mathlib.Core.Bool.{Bool, true, false}
+-- The line at a position of an image: one step of the walk, where the walk ends, the count of lines, and the answers case by case.
+use mathlib.Core.Path.{_≡_, refl, sym, ap, _∙_}
+use mathlib.Core.Bool.{Bool, true, false, true≢false}
 use mathlib.Core.List.{List, [], _∷_}
 use Prim.Native.Nat.{ℕ, suc, _+_, _-_, _≤_, _<_}
 use native.Mathlib.Nat.{add-zero}
@@ -12,10 +12,12 @@ use borrow.Author.Tests.{ltb-true, ltb-false, le-ltb, lt-ltb}
 use Rattle.avr.specs.declared.Instruction.{Instruction}
 use Rattle.avr.specs.declared.Line.{Line}
 use Rattle.avr.specs.declared.Line.the-variants as line
+use Rattle.avr.specs.declared.Place.{Place}
 use Rattle.manual.specs.Choice.{pick}
 use Rattle.manual.specs.Answers.{Answer}
 use Rattle.manual.specs.Decode.{decodes}
-use Rattle.manual.specs.Lines.{limit, lineOf, lengthOf, tailAfter, headLine, lineAt, linesFrom, lines, begunBefore, countBefore}
+use Rattle.manual.specs.Lines.{limit, lineOf, lengthOf, tailAfter, headLine, lineAt, placeAfter, linesFrom, lines, begunBefore, countBefore}
+use Rattle.walk.specs.Theorems.{isEnd}
 use Rattle.walk.proofs.Along.{lineHere, takes, unroll, none-left}
 
 -- what is left from a position on, as the code lends it
@@ -33,6 +35,12 @@ unroll-left flag tail (b ∷ bs) h = unroll flag tail b bs
 takes-left : (flag tail : Bool) (bs : List ℕ) → 0 < length bs → (1 ≤ lengthOf (lineHere flag tail bs)) × (lengthOf (lineHere flag tail bs) ≤ length bs)
 takes-left flag tail [] h = absurd (omega arith)
 takes-left flag tail (b ∷ bs) h = takes flag tail b bs
+
+pub is-end : (l : Line) → isEnd l ≡ true → l ≡ line.End
+is-end (line.Instruction x) e = cc
+is-end (line.Word w) e = cc
+is-end (line.Byte b) e = cc
+is-end line.End e = refl
 
 module _ (flag : Bool) (image : List ℕ) (at : ℕ) (tail : Bool) where
   module _ (short : length image ≤ limit) (inside : at < length image) where
@@ -78,6 +86,30 @@ module _ (flag : Bool) (image : List ℕ) (at : ℕ) (tail : Bool) where
           → pick b line.End (pick (ltb at (length image)) (pick tail (line.Byte (getD image at 0)) (headLine flag (drop at image))) line.End) ≡ line.End
       go true = refl
       go false = rw (le-ltb at (length image) h)
+
+  -- at the end the walk stays
+  pub stays-at-end : lineAt flag image at tail ≡ line.End → _≡_ {A = Place} (placeAfter flag image at tail) (record { at = at; tail = tail })
+  stays-at-end e = let z = add-zero at in rw (e, z)
+
+  -- a line that is none stands where the image ends, or in no image
+  pub ends-at-length : length image ≤ limit → lineAt flag image at tail ≡ line.End → length image ≤ at
+  ends-at-length short e = go (ltb at (length image)) refl
+    where
+      go : (c : Bool) → ltb at (length image) ≡ c → length image ≤ at
+      go false f = ltb-false at (length image) f
+      go true f =
+          let k = at-length short (ltb-true at (length image) f) in
+          let z = ap lengthOf e in
+          absurd (omega arith)
+
+  -- and any other stands inside an image
+  pub line-inside : isEnd (lineAt flag image at tail) ≡ false → (length image ≤ limit) × (at < length image)
+  line-inside e = go (ltb limit (length image)) (ltb at (length image)) refl refl
+    where
+      go : (b c : Bool) → ltb limit (length image) ≡ b → ltb at (length image) ≡ c → (length image ≤ limit) × (at < length image)
+      go true c f g = absurd (true≢false (sym (ap isEnd (end-over (ltb-true limit (length image) f))) ∙ e))
+      go false false f g = absurd (true≢false (sym (ap isEnd (end-past (ltb-false at (length image) g))) ∙ e))
+      go false true f g = (ltb-false limit (length image) f, ltb-true at (length image) g)
 
   -- the position behind a line is no further than the image's end, or where it was
   pub next-fits : (m : ℕ) → at < m → length image < m → at + lengthOf (lineAt flag image at tail) < m

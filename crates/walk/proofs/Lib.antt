@@ -1,5 +1,4 @@
 pub mod Along
 pub mod At
 pub mod Theorems
-pub mod Takings
 pub mod Unique

@@ -14,7 +14,7 @@ use Rattle.manual.specs.Decode.{decodes}
 use Rattle.manual.specs.Lines.{limit, lineOf, lengthOf, isByte, tailAfter, headLine, linesFrom, lines, begunBefore, countBefore}
 use Rattle.manual.specs.Listing.{placed}
 use Rattle.decode.proofs.Laws.{cases}
-use Rattle.walk.specs.Taking.{total, Every, Comes, BytesLast, BytesWhereShort}
+use Rattle.walk.specs.Theorems.{total, Every, Comes, BytesLast, BytesWhereShort}
 use Rattle.walk.proofs.Along.{lineHere, takes, unroll, along, none-left}
 use Rattle.walk.proofs.At.{lines-within}
 

@@ -31,9 +31,10 @@ fn refused(d: Decoded, b: u8) -> Line
 }
 
 // What stands at a state. It moves nothing.
-pub fn line_at(image: &[u8], at: usize, tail: bool, target: Target) -> Line
-    ensures { λ r. ⌜ r ≡ lineAt (target .has_16_bit_lds_sts) (now (image .entry)) at tail ⌝ }
+pub fn line_at(image: &[u8], place: Place, target: Target) -> Line
+    ensures { λ r. ⌜ r ≡ lineAt (target .has_16_bit_lds_sts) (now (image .entry)) (place .at) (place .tail) ⌝ }
 {
+    let at = place.at;
     if 8388608 < image.len() {
         return Line::End;
     }
@@ -41,7 +42,7 @@ pub fn line_at(image: &[u8], at: usize, tail: bool, target: Target) -> Line
         return Line::End;
     }
     let b = image[at];
-    if tail {
+    if place.tail {
         return Line::Byte(b);
     }
     let d = decode::decode(&image[at..], target);
@@ -76,15 +77,15 @@ fn tail_after(l: Line, tail: bool) -> bool
 }
 
 // The state behind the line at a state: where the next line begins. At the end it stays.
-pub fn step(image: &[u8], at: usize, tail: bool, target: Target) -> Place
-    ensures { λ r. ⌜ r ≡ placeAfter (target .has_16_bit_lds_sts) (now (image .entry)) at tail ⌝ }
+pub fn step(image: &[u8], place: Place, target: Target) -> Place
+    ensures { λ r. ⌜ r ≡ placeAfter (target .has_16_bit_lds_sts) (now (image .entry)) (place .at) (place .tail) ⌝ }
 {
-    let line = line_at(image, at, tail, target);
+    let line = line_at(image, place, target);
     let n = line_length(line);
-    let t = tail_after(line, tail);
+    let tail = tail_after(line, place.tail);
     Place {
-        at: at + n,
-        tail: t,
+        at: place.at + n,
+        tail,
     }
 }
 
@@ -96,12 +97,9 @@ pub fn count_before(image: &[u8], target: Target, position: usize) -> usize
         return 0;
     }
     let mut n: usize = 0;
-    let mut at: usize = 0;
-    let mut tail = false;
-    while at < image.len() && at < position {
-        let next = step(image, at, tail, target);
-        at = next.at;
-        tail = next.tail;
+    let mut place = Place { at: 0, tail: false };
+    while place.at < image.len() && place.at < position {
+        place = step(image, place, target);
         n += 1;
     }
     n

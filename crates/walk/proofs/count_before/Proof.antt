@@ -14,13 +14,13 @@ use Rattle.walk.proofs.count_before.Statement.{statement}
 use Rattle.walk.proofs.count_before.Tie as tie
 
 abbrev Inv-loop : tie.InvT-loop
-Inv-loop image target position n₀ at₀ tail₀ n at tail =
+Inv-loop image target position n₀ place₀ n place =
     let flag = target .«has_16_bit_lds_sts» in
-    (at ≤ length image) × (length image ≤ limit) × (n ≤ at)
-    × (n + begunBefore at (linesFrom flag tail (drop at image)) position ≡ countBefore flag image position)
+    (place .at ≤ length image) × (length image ≤ limit) × (n ≤ place .at)
+    × (n + begunBefore (place .at) (linesFrom flag (place .tail) (drop (place .at) image)) position ≡ countBefore flag image position)
 
 abbrev μ-loop : tie.MeasureT-loop
-μ-loop image target position n₀ at₀ tail₀ n at tail = length image - at
+μ-loop image target position n₀ place₀ n place = length image - place .at
 
 returns : tie.Need-returns Inv-loop μ-loop
 returns c = sym (over-long-counts-none _ _ _ (c .if1 .taken))
@@ -33,36 +33,36 @@ loop-holds c =
 
 loop-less : tie.Need-loop-less Inv-loop μ-loop
 loop-less c =
-    let l = c .before .before .before in
+    let l = c .before .before .before .before .before in
     let a = l .before .before .before .args in
-    let k = at-length (a .target .«has_16_bit_lds_sts») (now (a .image)) (l .loop .at) (l .loop .tail) (l .loop .inv .1) (omega arith) in
+    let k = at-length (a .target .«has_16_bit_lds_sts») (now (a .image)) (l .loop .place .at) (l .loop .place .tail) (l .loop .inv .1) (omega arith) in
     let e = ap (λ (p : Place). p .at) (c .step .ensures) in
     omega arith
 
 loop-again : tie.Need-loop-again Inv-loop μ-loop
 loop-again c =
-    let l = c .before .before .before in
+    let l = c .before .before .before .before .before in
     let a = l .before .before .before .args in
-    let k = at-length (a .target .«has_16_bit_lds_sts») (now (a .image)) (l .loop .at) (l .loop .tail) (l .loop .inv .1) (omega arith) in
+    let k = at-length (a .target .«has_16_bit_lds_sts») (now (a .image)) (l .loop .place .at) (l .loop .place .tail) (l .loop .inv .1) (omega arith) in
     let e = ap (λ (p : Place). p .at) (c .step .ensures) in
     let f = ap (λ (p : Place). p .tail) (c .step .ensures) in
-    let g = count-step (a .target .«has_16_bit_lds_sts») (now (a .image)) (l .loop .at) (l .loop .tail) (l .loop .inv .1) (omega arith) (a .position)
-    (ltb-true _ _ (c .before .if2 .taken)) in
+    let g = count-step (a .target .«has_16_bit_lds_sts») (now (a .image)) (l .loop .place .at) (l .loop .place .tail) (l .loop .inv .1) (omega arith) (a .position)
+    (ltb-true _ _ (c .before .if3 .taken)) in
     (omega arith, omega arith, omega arith, rw (e, f) (omega arith))
 
 returns-2 : tie.Need-returns-2 Inv-loop μ-loop
 returns-2 c =
-    let l = c .before .before in
+    let l = c .before .before .before .before in
     let a = l .before .before .before .args in
-    let z = count-past (l .loop .at) (linesFrom (a .target .«has_16_bit_lds_sts») (l .loop .tail) (drop (l .loop .at) (now (a .image)))) (a .position)
-    (ltb-false _ _ (c .if2 .left)) in
+    let z = count-past (l .loop .place .at) (linesFrom (a .target .«has_16_bit_lds_sts») (l .loop .place .tail) (drop (l .loop .place .at) (now (a .image)))) (a .position)
+    (ltb-false _ _ (c .if3 .left)) in
     omega arith
 
 returns-3 : tie.Need-returns-3 Inv-loop μ-loop
 returns-3 c =
-    let l = c .before in
+    let l = c .before .before in
     let a = l .before .before .before .args in
-    let z = left-none (a .target .«has_16_bit_lds_sts») (l .loop .tail) (now (a .image)) (l .loop .at) (omega arith) in
+    let z = left-none (a .target .«has_16_bit_lds_sts») (l .loop .place .tail) (now (a .image)) (l .loop .place .at) (omega arith) in
     let e = rw z at (l .loop .inv .3) in
     omega arith
 

@@ -19,7 +19,7 @@ returns-2 c = sym (end-past _ _ _ _ (c .if2 .taken))
 returns-3 : tie.Need-returns-3
 returns-3 c =
     let a = c .before .before .before .before .before .args in
-    is-byte (a .target .«has_16_bit_lds_sts») (now (a .image)) (a .at) (a .tail) (search needs) (search needs) (c .if3 .taken)
+    is-byte (a .target .«has_16_bit_lds_sts») (now (a .image)) (a .place .at) (a .place .tail) (search needs) (search needs) (c .if3 .taken)
 
 returns-4 : tie.Need-returns-4
 returns-4 c =
@@ -27,15 +27,15 @@ returns-4 c =
     let t = d .before .before in
     let a = t .before .before .before .before .before .args in
     c .refused .ensures
-    ∙ is-line (a .target .«has_16_bit_lds_sts») (now (a .image)) (a .at) (a .tail) (search needs) (search needs) (t .if3 .left) _ (d .decode .ensures)
+    ∙ is-line (a .target .«has_16_bit_lds_sts») (now (a .image)) (a .place .at) (a .place .tail) (search needs) (search needs) (t .if3 .left) _ (d .decode .ensures)
 
 returns-5 : tie.Need-returns-5
 returns-5 c =
     let d = c .before .before .before in
     let t = d .before .before in
     let a = t .before .before .before .before .before .args in
-    sym (ap (λ (x : Decoded). lineOf (ofDecoded x) (getD (now (a .image)) (a .at) 0)) (c .before .d .given .1))
-    ∙ is-line (a .target .«has_16_bit_lds_sts») (now (a .image)) (a .at) (a .tail) (search needs) (search needs) (t .if3 .left) _ (d .decode .ensures)
+    sym (ap (λ (x : Decoded). lineOf (ofDecoded x) (getD (now (a .image)) (a .place .at) 0)) (c .before .d .given .1))
+    ∙ is-line (a .target .«has_16_bit_lds_sts») (now (a .image)) (a .place .at) (a .place .tail) (search needs) (search needs) (t .if3 .left) _ (d .decode .ensures)
 
 pub line-at-spec : {M : Type 1} → statement M
 line-at-spec =

@@ -9,16 +9,16 @@ use Rattle.walk.proofs.At.{next-fits}
 use Rattle.walk.proofs.step.Statement.{statement}
 use Rattle.walk.proofs.step.Tie as tie
 
-add : tie.Need-add-t8
+add : tie.Need-add-t7
 add c =
-    let l = c .before .before in
+    let l = c .before .before .before in
     let a = l .before .before .args in
-    let n = c .before .line-length .ensures ∙ ap lengthOf (l .line-at .ensures) in
-    let k = next-fits (a .target .«has_16_bit_lds_sts») (now (a .image)) (a .at) (a .tail) (2 ^ 64) (omega arith) (omega arith) in
+    let n = c .before .before .line-length .ensures ∙ ap lengthOf (l .line-at .ensures) in
+    let k = next-fits (a .target .«has_16_bit_lds_sts») (now (a .image)) (a .place .at) (a .place .tail) (2 ^ 64) (omega arith) (omega arith) in
     omega arith
 
 returns : tie.Need-returns
-returns c = simp (c .before .line-length .ensures, c .tail-after .ensures, c .before .before .line-at .ensures)
+returns c = simp (c .before .before .line-length .ensures, c .before .tail-after .ensures, c .before .before .before .line-at .ensures)
 
 pub step-spec : {M : Type 1} → statement M
 step-spec =

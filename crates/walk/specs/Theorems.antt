@@ -1,37 +1,21 @@
--- What the theorems of the walk speak of: taking line after line, lengths together, and where a line comes from.
-use Prim.Native.Nat.{ℕ, zero, suc, _+_}
+-- What the theorems of the walk speak of: lengths together, and where a line comes from.
+use Prim.Native.Nat.{ℕ, _+_}
 use mathlib.Core.Path.{_≡_}
 use mathlib.Core.Bool.{Bool, true, false}
 use mathlib.Core.List.{List, [], _∷_}
 use lib.ListN.{getD, drop}
 use Rattle.avr.specs.declared.Line.{Line}
 use Rattle.avr.specs.declared.Line.the-variants as line
-use Rattle.avr.specs.declared.Place.{Place}
 use Rattle.manual.specs.Choice.{pick}
 use Rattle.manual.specs.Answers.{gives, noSuchWord, short}
 use Rattle.manual.specs.Decode.{decodes}
-use Rattle.manual.specs.Lines.{lengthOf, isByte, lineAt, placeAfter}
+use Rattle.manual.specs.Lines.{lengthOf, isByte}
 
 abbrev pub isEnd : Line → Bool
 isEnd (line.Instruction x) = false
 isEnd (line.Word w) = false
 isEnd (line.Byte b) = false
 isEnd line.End = true
-
--- the lines that taking gives from a state on, until it answers end, in at most n takes
-unfoldable pub taking : ℕ → Bool → List ℕ → ℕ → Bool → List Line
-taking zero flag image at tail = []
-taking (suc n) flag image at tail =
-    let l = lineAt flag image at tail in
-    let next = placeAfter flag image at tail in
-    pick (isEnd l) [] (l ∷ taking n flag image (next .at) (next .tail))
-
--- the position after n takes
-unfoldable pub positionAfter : ℕ → Bool → List ℕ → ℕ → Bool → ℕ
-positionAfter zero flag image at tail = at
-positionAfter (suc n) flag image at tail =
-    let next = placeAfter flag image at tail in
-    positionAfter n flag image (next .at) (next .tail)
 
 -- the lengths of all lines
 abbrev pub total : List Line → ℕ
