@@ -6,14 +6,16 @@ use Rattle.avr.specs.declared.Instruction.{Instruction}
 use Rattle.manual.specs.Answers.{Answer, gives, noSuchWord, short}
 use Rattle.manual.specs.Decode.{rowInstruction}
 use Rattle.rows.specs.Columns.{maskList, valueList, targetList, formList, rowAt, formAt}
+use Rattle.rows.specs.Spans.{spanList}
 use Rattle.decode.specs.declared.helper.Found.{Found}
 use Rattle.decode.specs.declared.helper.Found.the-variants as found
 
 -- the lent tables are the columns of the rows
-pub record Tables (masks values targets forms : List ℕ) : Type 0 where
+pub record Tables (masks values targets spans forms : List ℕ) : Type 0 where
   pub mask : masks ≡ maskList
   pub value : values ≡ valueList
   pub target : targets ≡ targetList
+  pub span : spans ≡ spanList
   pub form : forms ≡ formList
 
 -- the record that a row and its words make, or the refusal

@@ -5,6 +5,11 @@ ghost use lib.ListN.{length};
 ghost use Rattle.manual.specs.Decode.{wordAt, decodes};
 ghost use Rattle.decode.specs.Forms.{sregFrom, bytesFrom};
 ghost use Rattle.decode.specs.Found.{Tables, ofFound, Known};
+use rows::spans::SPANS;
+use rows::tables::FORMS;
+use rows::tables::MASKS;
+use rows::tables::TARGETS;
+use rows::tables::VALUES;
 
 // The number of the SREG bit of a word, by the place that the form says.
 pub fn sreg_bit(place: u32, w: u16) -> u8
@@ -62,18 +67,19 @@ pub fn find(
     masks: &[u16; 103],
     values: &[u16; 103],
     targets: &[u8; 103],
+    spans: &[u16; 512],
     forms: &[u32; 103],
     bytes: &[u8],
     flag: bool,
 ) -> Found
-    requires { ⌜ Tables (now masks) (now values) (now targets) (now forms) ⌝ }
+    requires { ⌜ Tables (now masks) (now values) (now targets) (now spans) (now forms) ⌝ }
     ensures { λ r. ⌜ (ofFound r ≡ decodes flag (now (bytes .entry))) × Known r ⌝ }
 {
     if bytes.len() < 2 {
         return Found::Short(2);
     }
     let word = word_at(bytes, 0);
-    let row = rows::helper::scan(masks, values, targets, word, flag);
+    let row = rows::helper::scan(masks, values, targets, spans, word, flag);
     if 103 <= row {
         return Found::InvalidOpcode(word);
     }
@@ -96,4 +102,11 @@ pub fn find(
         word,
         extra,
     }
+}
+
+// The search for one instruction.
+pub fn find_one(bytes: &[u8], flag: bool) -> Found
+    ensures { λ r. ⌜ (ofFound r ≡ decodes flag (now (bytes .entry))) × Known r ⌝ }
+{
+    find(&MASKS, &VALUES, &TARGETS, &SPANS, &FORMS, bytes, flag)
 }

@@ -11,13 +11,9 @@ use avr::Decoded;
 use avr::Instruction;
 use avr::Target;
 use helper::Found;
-use helper::find;
+use helper::find_one;
 use helper::form_bytes;
 use helper::sreg_bit;
-use rows::tables::FORMS;
-use rows::tables::MASKS;
-use rows::tables::TARGETS;
-use rows::tables::VALUES;
 
 // The record of a row, by its form, the first word and the second.
 fn instruction(i: usize, form: u32, w: u16, e: u16) -> Instruction
@@ -40,14 +36,7 @@ fn instruction(i: usize, form: u32, w: u16, e: u16) -> Instruction
 pub fn decode(bytes: &[u8], target: Target) -> Decoded
     ensures { λ r. ⌜ ofDecoded r ≡ decodes (target .has_16_bit_lds_sts) (now (bytes .entry)) ⌝ }
 {
-    let found = find(
-        &MASKS,
-        &VALUES,
-        &TARGETS,
-        &FORMS,
-        bytes,
-        target.has_16_bit_lds_sts,
-    );
+    let found = find_one(bytes, target.has_16_bit_lds_sts);
     match found {
         Found::Row {
             row,

@@ -4,8 +4,9 @@ use Rattle.manual.specs.Rows.{rows}
 use Rattle.manual.specs.Text.{mnemonic}
 use Rattle.rows.specs.Kinds.{kinds}
 use Rattle.rows.specs.Columns.{maskList, valueList, targetList, formList}
+use Rattle.rows.specs.Spans.{spanList}
 use Rattle.text.specs.Names.{nameList, nameBytes, nameLengths}
 use Rattle.listing.specs.Lent.{Lent}
 
-pub lent : Lent maskList valueList targetList formList nameBytes nameLengths
-lent = record { tables = record { mask = refl; value = refl; target = refl; form = refl }; name = refl; size = refl }
+pub lent : Lent maskList valueList targetList spanList formList nameBytes nameLengths
+lent = record { tables = record { mask = refl; value = refl; target = refl; span = refl; form = refl }; name = refl; size = refl }

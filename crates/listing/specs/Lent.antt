@@ -13,8 +13,8 @@ use Rattle.put.specs.Put.{Put}
 use Rattle.listing.specs.declared.helper.Walked.{Walked}
 
 -- the lent tables are the columns of the rows, and the names and their lengths
-pub record Lent (masks values targets forms names lengths : List ℕ) : Type 0 where
-  pub tables : Tables masks values targets forms
+pub record Lent (masks values targets spans forms names lengths : List ℕ) : Type 0 where
+  pub tables : Tables masks values targets spans forms
   pub name : names ≡ nameBytes
   pub size : lengths ≡ nameLengths
 

@@ -20,6 +20,7 @@ use put::put_bytes;
 use put::put_hex2;
 use put::put_hex4;
 use put::put_hex6;
+use rows::spans::SPANS;
 use rows::tables::FORMS;
 use rows::tables::MASKS;
 use rows::tables::TARGETS;
@@ -106,6 +107,7 @@ pub(crate) fn put_line(
     masks: &[u16; 103],
     values: &[u16; 103],
     targets: &[u8; 103],
+    spans: &[u16; 512],
     forms: &[u32; 103],
     names: &[u8; 660],
     lengths: &[u8; 110],
@@ -116,7 +118,7 @@ pub(crate) fn put_line(
     out: &mut [u8],
     o: usize,
 ) -> Walked
-    requires { ⌜ Lent (now masks) (now values) (now targets) (now forms) (now names) (now lengths) ⌝ }
+    requires { ⌜ Lent (now masks) (now values) (now targets) (now spans) (now forms) (now names) (now lengths) ⌝ }
     requires { ⌜ (at < length (now image)) × (length (now image) ≤ limit) × (o + 29 ≤ length (now out)) ⌝ }
     ensures { λ r. ⌜ Listed at (lineAt flag (now (image .entry)) at tail) tail (now (out .entry)) o (now (out .exit)) r ⌝ }
 {
@@ -125,7 +127,7 @@ pub(crate) fn put_line(
     if tail {
         return put_one(&mut *out, p, b);
     }
-    let found = find(masks, values, targets, forms, &image[at..], flag);
+    let found = find(masks, values, targets, spans, forms, &image[at..], flag);
     put_found(names, lengths, found, b, &mut *out, p)
 }
 
@@ -150,6 +152,7 @@ fn put_lines(
     masks: &[u16; 103],
     values: &[u16; 103],
     targets: &[u8; 103],
+    spans: &[u16; 512],
     forms: &[u32; 103],
     names: &[u8; 660],
     lengths: &[u8; 110],
@@ -158,7 +161,7 @@ fn put_lines(
     out: &mut [u8],
     o: usize,
 ) -> usize
-    requires { ⌜ Lent (now masks) (now values) (now targets) (now forms) (now names) (now lengths) ⌝ }
+    requires { ⌜ Lent (now masks) (now values) (now targets) (now spans) (now forms) (now names) (now lengths) ⌝ }
     requires { ⌜ (length (now image) ≤ limit) × (o + 18 * length (now image) ≤ length (now out)) ⌝ }
     ensures { λ r. ⌜ Put (now (out .entry)) o (listing flag (now (image .entry))) (now (out .exit)) r ⌝ }
 {
@@ -169,6 +172,7 @@ fn put_lines(
             masks,
             values,
             targets,
+            spans,
             forms,
             names,
             lengths,
@@ -197,6 +201,7 @@ pub fn put_listing(image: &[u8], flag: bool, out: &mut [u8], o: usize) -> usize
         &MASKS,
         &VALUES,
         &TARGETS,
+        &SPANS,
         &FORMS,
         &NAMES,
         &LENGTHS,

@@ -19,6 +19,7 @@ use helper::put_line;
 use helper::put_listing;
 use put::put_byte;
 use put::put_bytes;
+use rows::spans::SPANS;
 use rows::tables::FORMS;
 use rows::tables::MASKS;
 use rows::tables::TARGETS;
@@ -49,6 +50,7 @@ pub fn write_line(
         &MASKS,
         &VALUES,
         &TARGETS,
+        &SPANS,
         &FORMS,
         &NAMES,
         &LENGTHS,
@@ -72,13 +74,14 @@ fn listing_length(
     masks: &[u16; 103],
     values: &[u16; 103],
     targets: &[u8; 103],
+    spans: &[u16; 512],
     forms: &[u32; 103],
     names: &[u8; 660],
     lengths: &[u8; 110],
     image: &[u8],
     flag: bool,
 ) -> usize
-    requires { ⌜ Lent (now masks) (now values) (now targets) (now forms) (now names) (now lengths) ⌝ }
+    requires { ⌜ Lent (now masks) (now values) (now targets) (now spans) (now forms) (now names) (now lengths) ⌝ }
     requires { ⌜ length (now image) ≤ limit ⌝ }
     ensures { λ r. ⌜ r ≡ length (listing flag (now (image .entry))) ⌝ }
 {
@@ -91,6 +94,7 @@ fn listing_length(
             masks,
             values,
             targets,
+            spans,
             forms,
             names,
             lengths,
@@ -113,6 +117,7 @@ fn copy_lines(
     masks: &[u16; 103],
     values: &[u16; 103],
     targets: &[u8; 103],
+    spans: &[u16; 512],
     forms: &[u32; 103],
     names: &[u8; 660],
     lengths: &[u8; 110],
@@ -120,7 +125,7 @@ fn copy_lines(
     flag: bool,
     out: &mut [u8],
 ) -> usize
-    requires { ⌜ Lent (now masks) (now values) (now targets) (now forms) (now names) (now lengths) ⌝ }
+    requires { ⌜ Lent (now masks) (now values) (now targets) (now spans) (now forms) (now names) (now lengths) ⌝ }
     requires { ⌜ (length (now image) ≤ limit) × (length (listing flag (now image)) ≤ length (now out)) ⌝ }
     ensures { λ r. ⌜ Put (now (out .entry)) 0 (listing flag (now (image .entry))) (now (out .exit)) r ⌝ }
 {
@@ -133,6 +138,7 @@ fn copy_lines(
             masks,
             values,
             targets,
+            spans,
             forms,
             names,
             lengths,
@@ -161,6 +167,7 @@ fn list_counted(image: &[u8], flag: bool, out: &mut [u8]) -> Listed
         &MASKS,
         &VALUES,
         &TARGETS,
+        &SPANS,
         &FORMS,
         &NAMES,
         &LENGTHS,
@@ -174,6 +181,7 @@ fn list_counted(image: &[u8], flag: bool, out: &mut [u8]) -> Listed
         &MASKS,
         &VALUES,
         &TARGETS,
+        &SPANS,
         &FORMS,
         &NAMES,
         &LENGTHS,

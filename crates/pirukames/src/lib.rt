@@ -18,11 +18,7 @@ use avr::Str;
 use avr::Strings;
 use avr::Target;
 use decode::helper::Found;
-use decode::helper::find;
-use rows::tables::FORMS;
-use rows::tables::MASKS;
-use rows::tables::TARGETS;
-use rows::tables::VALUES;
+use decode::helper::find_one;
 use text::names::LENGTHS;
 use text::names::NAMES;
 
@@ -45,7 +41,7 @@ pub extern "C" fn avr_text(bytes: &[u8], flag: u8, out: &mut [u8]) -> u64
     ensures { λ r. ⌜ r ≡ coded (delivers (texts (isSet flag) (now (bytes .entry))) (now (out .entry))) ⌝ }
     ensures { λ r. ⌜ now (out .exit) ≡ delivered (texts (isSet flag) (now (bytes .entry))) (now (out .entry)) ⌝ }
 {
-    let found = find(&MASKS, &VALUES, &TARGETS, &FORMS, bytes, flag != 0);
+    let found = find_one(bytes, flag != 0);
     match found {
         Found::InvalidOpcode(w) => 4294967296 + w as u64,
         Found::Short(n) => 2 * 4294967296 + n as u64,

@@ -10,11 +10,7 @@ ghost use Rattle.reverse.specs.Listing.{printsAs, firstPasses};
 use avr::Str;
 use avr::Strings;
 use decode::helper::Found;
-use decode::helper::find;
-use rows::tables::FORMS;
-use rows::tables::MASKS;
-use rows::tables::TARGETS;
-use rows::tables::VALUES;
+use decode::helper::find_one;
 use text::names::LENGTHS;
 use text::names::NAMES;
 
@@ -30,7 +26,7 @@ fn row_prints(i: usize, form: u32, w: u16, e: u16, line: &[u8]) -> bool
 fn bytes_print(bytes: &[u8], flag: bool, line: &[u8]) -> bool
     ensures { λ r. ⌜ r ≡ printsAs (decodes flag (now (bytes .entry))) (now (line .entry)) ⌝ }
 {
-    match find(&MASKS, &VALUES, &TARGETS, &FORMS, bytes, flag) {
+    match find_one(bytes, flag) {
         Found::Row {
             row,
             form,

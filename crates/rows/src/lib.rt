@@ -8,8 +8,10 @@ ghost use Rattle.rows.specs.Columns.{maskOf, targetCode, rowAt};
 ghost use Rattle.rows.specs.Words.{wordsOf, wordsFor};
 
 pub mod helper;
+pub mod spans;
 pub mod tables;
 
+use spans::SPANS;
 use tables::MASKS;
 use tables::TARGETS;
 use tables::VALUES;
@@ -18,7 +20,7 @@ use tables::VALUES;
 pub fn find_row(word: u16, flag: bool) -> usize
     ensures { λ r. ⌜ r ≡ place rows flag word ⌝ }
 {
-    helper::scan(&MASKS, &VALUES, &TARGETS, word, flag)
+    helper::scan(&MASKS, &VALUES, &TARGETS, &SPANS, word, flag)
 }
 
 // The mask of a row.

@@ -17,12 +17,12 @@ use Rattle.listing.proofs.copy_lines.Statement.{statement}
 use Rattle.listing.proofs.copy_lines.Tie as tie
 
 abbrev Inv-loop : tie.InvT-loop
-Inv-loop masks values targets forms names lengths image flag out₀ line₀ at₀ tail₀ next₀ out line at tail next =
+Inv-loop masks values targets spans forms names lengths image flag out₀ line₀ at₀ tail₀ next₀ out line at tail next =
     (at ≤ length image) × (length out ≡ length out₀)
     × ((W : List ℕ) × (Put out₀ 0 W out next × (W ++ left flag image at tail ≡ listing flag image))) × (length line ≡ 29)
 
 abbrev μ-loop : tie.MeasureT-loop
-μ-loop masks values targets forms names lengths image flag out₀ line₀ at₀ tail₀ next₀ out line at tail next = length image - at
+μ-loop masks values targets spans forms names lengths image flag out₀ line₀ at₀ tail₀ next₀ out line at tail next = length image - at
 
 loop-holds : tie.Need-loop-holds Inv-loop μ-loop
 loop-holds c =

@@ -14,11 +14,11 @@ use Rattle.listing.proofs.listing_length.Statement.{statement}
 use Rattle.listing.proofs.listing_length.Tie as tie
 
 abbrev Inv-loop : tie.InvT-loop
-Inv-loop masks values targets forms names lengths image flag line₀ at₀ tail₀ n₀ line at tail n =
+Inv-loop masks values targets spans forms names lengths image flag line₀ at₀ tail₀ n₀ line at tail n =
     (at ≤ length image) × (n ≤ 18 * at) × (n + length (left flag image at tail) ≡ length (listing flag image)) × (length line ≡ 29)
 
 abbrev μ-loop : tie.MeasureT-loop
-μ-loop masks values targets forms names lengths image flag line₀ at₀ tail₀ n₀ line at tail n = length image - at
+μ-loop masks values targets spans forms names lengths image flag line₀ at₀ tail₀ n₀ line at tail n = length image - at
 
 loop-holds : tie.Need-loop-holds Inv-loop μ-loop
 loop-holds c =

@@ -7,6 +7,7 @@ use Rattle.manual.specs.Rows.{rows}
 use Rattle.manual.specs.Text.{mnemonic}
 use Rattle.rows.specs.Kinds.{kinds}
 use Rattle.rows.specs.Columns.{maskList, valueList, targetList, formList}
+use Rattle.rows.specs.Spans.{spanList}
 use Rattle.text.specs.Names.{nameList, nameBytes, nameLengths}
 use Rattle.put.proofs.Fit.{start-length, start-fits, no-room, copied}
 use Rattle.listing.proofs.LentTables.{lent}
@@ -25,13 +26,13 @@ returns-2 c =
     past-end (s .args .target .«has_16_bit_lds_sts») (now (s .args .image)) (s .args .at) (s .args .tail) (now (s .args .out)) (c .if2 .taken)
 
 put-line-requires : tie.Need-put-line-requires
-unfolding rows kinds maskList valueList targetList formList mnemonic nameList nameBytes nameLengths
+unfolding rows kinds maskList valueList targetList formList spanList mnemonic nameList nameBytes nameLengths
 put-line-requires c κs = (lent, (omega arith, omega arith, search needs))
 
 returns-3 : tie.Need-returns-3
 returns-3 c =
     let l = c .before .before in
-    let t = l .before .before .before .before .before .before .before .before in
+    let t = l .before .before .before .before .before .before .before .before .before in
     let s = t .before .before .before .before in
     a-line (s .args .target .«has_16_bit_lds_sts») (now (s .args .image)) (s .args .at) (s .args .tail) (now (s .args .out)) (t .before .if1 .left) (t .if2 .left)
     (no-room (l .put-line .ensures .text) (now (s .args .out)) (c .if3 .taken))
@@ -39,7 +40,7 @@ returns-3 c =
 returns-4 : tie.Need-returns-4
 returns-4 c =
     let l = c .before .before .before .before .before .before .before in
-    let t = l .before .before .before .before .before .before .before .before in
+    let t = l .before .before .before .before .before .before .before .before .before in
     let s = t .before .before .before .before in
     a-line (s .args .target .«has_16_bit_lds_sts») (now (s .args .image)) (s .args .at) (s .args .tail) (now (s .args .out)) (t .before .if1 .left) (t .if2 .left)
     (copied (l .put-line .ensures .text) (now (s .args .out)) (c .before .before .before .before .before .if3 .left) _ (c .before .before .copy .ensures))

@@ -7,6 +7,7 @@ use Rattle.manual.specs.Rows.{rows}
 use Rattle.manual.specs.Text.{mnemonic}
 use Rattle.rows.specs.Kinds.{kinds}
 use Rattle.rows.specs.Columns.{maskList, valueList, targetList, formList}
+use Rattle.rows.specs.Spans.{spanList}
 use Rattle.text.specs.Names.{nameList, nameBytes, nameLengths}
 use Rattle.decode.specs.Found.{ofFound}
 use Rattle.put.proofs.Fit.{at-start, start-length}
@@ -17,15 +18,11 @@ use Rattle.pirukames.proofs.Coded.{same-text, through}
 use Rattle.pirukames.proofs.avr_text.Statement.{statement}
 use Rattle.pirukames.proofs.avr_text.Tie as tie
 
-find-requires : tie.Need-find-requires
-unfolding rows kinds maskList valueList targetList formList mnemonic nameList nameBytes nameLengths
-find-requires c κs = lent .tables
-
 put-row-requires : tie.Need-put-row-requires
-unfolding rows kinds maskList valueList targetList formList mnemonic nameList nameBytes nameLengths
+unfolding rows kinds maskList valueList targetList formList spanList mnemonic nameList nameBytes nameLengths
 put-row-requires c κs =
     let f = c .before .before .before .before in
-    let k = row-known (f .found3 .given .1) (f .before .before .find .ensures .1) in
+    let k = row-known (f .found3 .given .1) (f .before .before .find-one .ensures .1) in
     (lent .name, lent .size, k .0, k .1, search needs)
 
 give-requires : tie.Need-give-requires
@@ -36,25 +33,25 @@ give-requires c κs =
 returns : tie.Need-returns
 returns c =
     let f = c .before in
-    through _ _ _ ofText (ap ofFound (sym (f .found .given .1)) ∙ f .before .before .find .ensures .0) (refl, refl)
+    through _ _ _ ofText (ap ofFound (sym (f .found .given .1)) ∙ f .before .before .find-one .ensures .0) (refl, refl)
 
 returns-2 : tie.Need-returns-2
 returns-2 c =
     let f = c .before in
-    through _ _ _ ofText (ap ofFound (sym (f .found2 .given .1)) ∙ f .before .before .find .ensures .0) (refl, refl)
+    through _ _ _ ofText (ap ofFound (sym (f .found2 .given .1)) ∙ f .before .before .find-one .ensures .0) (refl, refl)
 
 returns-3 : tie.Need-returns-3
 returns-3 c =
     let p = c .before .before .before .before .before .before in
     let f = p .before .before .before .before .before in
-    through _ _ _ ofText (ap ofFound (sym (f .found3 .given .1)) ∙ f .before .before .find .ensures .0)
+    through _ _ _ ofText (ap ofFound (sym (f .found3 .given .1)) ∙ f .before .before .find-one .ensures .0)
     (same-text _ _ _ (at-start (p .put-row .ensures .0)) (c .before .before .give .ensures))
 
 pub avr-text-spec : {M : Type 1} → statement M
 avr-text-spec =
     tie.close
     (tie.spec
-    find-requires
+    (λ c κs. search needs)
     (λ c. search needs)
     (λ c. search needs)
     (λ c. search needs)

@@ -11,7 +11,7 @@ use Rattle.decode.proofs.helper.find.Tie as tie
 scan-requires : tie.Need-scan-requires
 scan-requires c κs =
     let t = c .before .before .before .pre in
-    (t .mask, t .value, t .target)
+    (t .mask, t .value, t .target, t .span)
 
 returns : tie.Need-returns
 returns c = let s = c .before .before in (short-2 (s .args .flag) (now (s .args .bytes)) (search needs), tt)

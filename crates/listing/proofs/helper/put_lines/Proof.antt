@@ -17,12 +17,12 @@ use Rattle.listing.proofs.helper.put_lines.Statement.{statement}
 use Rattle.listing.proofs.helper.put_lines.Tie as tie
 
 abbrev Inv-loop : tie.InvT-loop
-Inv-loop masks values targets forms names lengths image flag out₀ o at₀ next₀ out at next =
+Inv-loop masks values targets spans forms names lengths image flag out₀ o at₀ next₀ out at next =
     (at ≤ length image) × (length out ≡ length out₀) × (next + 18 * (length image - at) ≤ length out₀)
     × ((W : List ℕ) × (Put out₀ o W out next × (W ++ left flag image at false ≡ listing flag image)))
 
 abbrev μ-loop : tie.MeasureT-loop
-μ-loop masks values targets forms names lengths image flag out₀ o at₀ next₀ out at next = length image - at
+μ-loop masks values targets spans forms names lengths image flag out₀ o at₀ next₀ out at next = length image - at
 
 loop-holds : tie.Need-loop-holds Inv-loop μ-loop
 loop-holds c =

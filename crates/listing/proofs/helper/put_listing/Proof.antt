@@ -4,13 +4,14 @@ use Rattle.manual.specs.Rows.{rows}
 use Rattle.manual.specs.Text.{mnemonic}
 use Rattle.rows.specs.Kinds.{kinds}
 use Rattle.rows.specs.Columns.{maskList, valueList, targetList, formList}
+use Rattle.rows.specs.Spans.{spanList}
 use Rattle.text.specs.Names.{nameList, nameBytes, nameLengths}
 use Rattle.listing.proofs.LentTables.{lent}
 use Rattle.listing.proofs.helper.put_listing.Statement.{statement}
 use Rattle.listing.proofs.helper.put_listing.Tie as tie
 
 put-lines-requires : tie.Need-put-lines-requires
-unfolding rows kinds maskList valueList targetList formList mnemonic nameList nameBytes nameLengths
+unfolding rows kinds maskList valueList targetList formList spanList mnemonic nameList nameBytes nameLengths
 put-lines-requires c κs = (lent, search needs)
 
 pub put-listing-spec : {M : Type 1} → statement M
