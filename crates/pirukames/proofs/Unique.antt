@@ -1,15 +1,17 @@
--- Two answers that a statement allows are equal, and so is what they leave in the buffer. Four statements are equations; that of
--- avr_reverse names a list, of which there is one.
+-- Two answers that a statement allows are equal, and so is what they leave in the buffer. All statements but one are equations; that
+-- of avr_reverse names a list, of which there is one.
 use mathlib.Core.Path.{_≡_, sym, ap, _∙_}
 use mathlib.Core.Bool.{Bool}
 use mathlib.Core.List.{List}
 use Prim.Native.Nat.{ℕ}
+use lib.ListN.{length}
 use Rattle.avr.proofs.Unique.{one-answer}
 use Rattle.manual.specs.Answers.{Answer}
 use Rattle.manual.specs.Room.{written, filled}
 use Rattle.manual.specs.Frames.{lineAnswer}
 use Rattle.manual.specs.Lists.{lists, listLeft}
 use Rattle.manual.specs.Reverse.{Reverse}
+use Rattle.hex.specs.Hex.{reads, sizeOf, laid}
 use Rattle.reverse.proofs.Unique.{one-reading}
 use Rattle.pirukames.specs.Library.{coded, delivers, delivered, texts, recodes, strung}
 
@@ -41,3 +43,8 @@ module _ (flag : Bool) (bytes buffer : List ℕ) (a b : ℕ) (d e : List ℕ) wh
       let k = sym (one-reading flag bytes l m (p .0) (q .0)) in
       both-unique a b d e (p .1, p .2)
       (q .1 ∙ ap (λ (x : List (List ℕ)). coded (written (strung x) buffer)) k, q .2 ∙ ap (λ (x : List (List ℕ)). filled (strung x) buffer) k)
+
+module _ (text lent : List ℕ) (a b : ℕ) (d e : List ℕ) where
+  pub avr-read-hex-unique : (a ≡ coded (sizeOf (reads (length lent) text))) × (d ≡ laid (reads (length lent) text) lent)
+      → (b ≡ coded (sizeOf (reads (length lent) text))) × (e ≡ laid (reads (length lent) text) lent) → (a ≡ b) × (d ≡ e)
+  avr-read-hex-unique = both-unique a b d e

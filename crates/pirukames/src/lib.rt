@@ -1,4 +1,4 @@
-// The static library: five functions for C or Rust to call, over the proved ones. include/pirukames.h declares them. A flag is 0 for
+// The static library: functions for C or Rust to call, over the proved ones. include/pirukames.h declares them. A flag is 0 for
 // a target without 16-bit lds and sts, and anything else for one with them. The result is a refusal's number times 2 to the power of
 // 32 and its value, or 0 times that and the count of bytes written. A refusal writes nothing, and bytes behind the count are kept.
 ghost use mathlib.Core.Path.{_≡_};
@@ -21,6 +21,8 @@ use decode::helper::Found;
 use decode::helper::find_one;
 use text::names::LENGTHS;
 use text::names::NAMES;
+
+mod intel_hex;
 
 // A text into the lent buffer, or refusal 3.
 fn give(s: &[u8], out: &mut [u8]) -> u64

@@ -1,0 +1,12 @@
+pub mod Cuts
+pub mod Places
+pub mod Formed
+pub mod Faults
+pub mod Data
+pub mod Gathers
+pub mod Stands
+pub mod Filled
+pub mod Totals
+pub mod Small
+pub mod Order
+pub mod Unique

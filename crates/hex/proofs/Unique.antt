@@ -1,0 +1,26 @@
+-- Two answers that a statement allows are equal, and so is what they leave in the lent image.
+use mathlib.Core.Path.{_≡_, refl, sym, _∙_}
+use mathlib.Core.List.{List}
+use Prim.Native.Nat.{ℕ}
+use lib.ListN.{length}
+use Rattle.avr.proofs.Unique.{one-answer}
+use Rattle.hex.specs.declared.HexRead.{HexRead}
+use Rattle.hex.specs.declared.HexRead.the-variants as hexRead
+use Rattle.hex.specs.Answers.{ofHexRead}
+use Rattle.hex.specs.Hex.{reads, sizeOf, laid}
+
+one-read : (r s : HexRead) → ofHexRead r ≡ ofHexRead s → r ≡ s
+one-read (hexRead.Done n) (hexRead.Done m) e = cc
+one-read (hexRead.Done n) (hexRead.Faulty k m) e = cc
+one-read (hexRead.Done n) hexRead.NoEnd e = cc
+one-read (hexRead.Faulty j n) (hexRead.Done m) e = cc
+one-read (hexRead.Faulty j n) (hexRead.Faulty k m) e = cc
+one-read (hexRead.Faulty j n) hexRead.NoEnd e = cc
+one-read hexRead.NoEnd (hexRead.Done m) e = cc
+one-read hexRead.NoEnd (hexRead.Faulty k m) e = cc
+one-read hexRead.NoEnd hexRead.NoEnd e = refl
+
+pub read-unique : (text lent : List ℕ) (r s : HexRead) (d e : List ℕ)
+    → (ofHexRead r ≡ sizeOf (reads (length lent) text)) × (d ≡ laid (reads (length lent) text) lent)
+    → (ofHexRead s ≡ sizeOf (reads (length lent) text)) × (e ≡ laid (reads (length lent) text) lent) → (r ≡ s) × (d ≡ e)
+read-unique text lent r s d e p q = (one-read r s (p .0 ∙ sym (q .0)), one-answer d e (p .1) (q .1))

@@ -1,0 +1,3 @@
+pub mod Hex
+pub mod Answers
+pub mod Lines

@@ -1,0 +1,20 @@
+// Intel HEX for C or Rust to call. See lib.rt for how an answer is one number.
+use hex::HexRead;
+ghost use mathlib.Core.Path.{_≡_};
+ghost use lib.ListN.{length};
+ghost use Rattle.hex.specs.Hex.{reads, sizeOf, laid};
+ghost use Rattle.pirukames.specs.Library.{coded};
+
+// The image that a text of Intel HEX gives. Refusals 7 to 11 with the line's number, and 12.
+#[no_mangle]
+pub extern "C" fn avr_read_hex(text: &[u8], image: &mut [u8]) -> u64
+    ensures { λ r. ⌜ r ≡ coded (sizeOf (reads (length (now (image .entry))) (now (text .entry)))) ⌝ }
+    ensures { λ r. ⌜ now (image .exit) ≡ laid (reads (length (now (image .entry))) (now (text .entry))) (now (image .entry)) ⌝ }
+{
+    let answer = hex::read(text, &mut *image);
+    match answer {
+        HexRead::Done(n) => n as u64,
+        HexRead::Faulty(k, n) => k as u64 * 4294967296 + n as u64,
+        HexRead::NoEnd => 12 * 4294967296,
+    }
+}
