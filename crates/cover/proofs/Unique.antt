@@ -131,15 +131,18 @@ ranged-once {before = before} p q =
     let l = one-list (p .right) (q .right) in
     (p .answers ∙ ap (λ (s : List ℕ). written s before) l ∙ sym (q .answers), p .holds ∙ ap (λ (s : List ℕ). filled s before) l ∙ sym (q .holds))
 
-pub write-ranges-unique : (map before d e : List ℕ) (a b : MapWritten) → Writes map before (ofMapWritten a) d → Writes map before (ofMapWritten b) e → (a ≡ b) × (d ≡ e)
-write-ranges-unique map before d e a b p q = go (eqb (length map) 8192) refl
+pub writes-once : (map before d e : List ℕ) (a b : Answer ℕ) → Writes map before a d → Writes map before b e → (a ≡ b) × (d ≡ e)
+writes-once map before d e a b p q = go (eqb (length map) 8192) refl
   where
-    told : ofMapWritten a ≡ ofMapWritten b → a ≡ b
-    told i = back ofMapWritten written-from written-same a b i refl
-
     go : (t : Bool) → eqb (length map) 8192 ≡ t → (a ≡ b) × (d ≡ e)
-    go true t = let r = ranged-once (p .of-map (eqb-true (length map) 8192 t)) (q .of-map (eqb-true (length map) 8192 t)) in (told (r .0), r .1)
+    go true t = ranged-once (p .of-map (eqb-true (length map) 8192 t)) (q .of-map (eqb-true (length map) 8192 t))
     go false t =
         let x = p .no-map (eqb-false (length map) 8192 t) in
         let y = q .no-map (eqb-false (length map) 8192 t) in
-        (told (x .0 ∙ sym (y .0)), x .1 ∙ sym (y .1))
+        (x .0 ∙ sym (y .0), x .1 ∙ sym (y .1))
+
+pub write-ranges-unique : (map before d e : List ℕ) (a b : MapWritten)
+    → Writes map before (ofMapWritten a) d → Writes map before (ofMapWritten b) e → (a ≡ b) × (d ≡ e)
+write-ranges-unique map before d e a b p q =
+    let w = writes-once map before d e (ofMapWritten a) (ofMapWritten b) p q in
+    (back ofMapWritten written-from written-same a b (w .0) refl, w .1)

@@ -1,4 +1,4 @@
-// The static library: five functions for C or Rust to call, over the proved ones. include/pirukames.h declares them. A flag is 0 for
+// The static library: functions for C or Rust to call, over the proved ones. include/pirukames.h declares them. A flag is 0 for
 // a target without 16-bit lds and sts, and anything else for one with them. The result is a refusal's number times 2 to the power of
 // 32 and its value, or 0 times that and the count of bytes written. A refusal writes nothing, and bytes behind the count are kept.
 ghost use mathlib.Core.Path.{_≡_};
@@ -11,6 +11,9 @@ ghost use Rattle.pirukames.specs.Library.{isSet, coded, delivers, delive
 ghost use Rattle.manual.specs.Lists.{lists, listLeft};
 ghost use Rattle.manual.specs.Reverse.{Reverse};
 ghost use Rattle.manual.specs.Room.{written, filled};
+
+mod coverage;
+
 use avr::Decoded;
 use avr::Encoded;
 use avr::Listed;

@@ -26,21 +26,26 @@ returns c =
 
 returns-2 : tie.Need-returns-2 Inv-loop μ-loop
 returns-2 c =
-    let s = c .before .before .before .before .before .before .before in
-    let l = c .before .before .before .before .before .loop in
-    sym (l .inv .2 ∙ list-low (now (s .args .s)) (l .p) (omega arith) (l .least) _ (c .before .before .two-at .ensures .0) (search needs))
+    let first = c .before .before in
+    let l = first .before .before .before .loop in
+    let s = first .before .before .before .before .before in
+    sym (l .inv .2 ∙ list-low (now (s .args .s)) (l .p) (omega arith) (l .least) _ (first .two-at .ensures .0) (search needs))
 
 returns-3 : tie.Need-returns-3 Inv-loop μ-loop
 returns-3 c =
-    let s = c .before .before .before .before .before .before .before .before in
-    let l = c .before .before .before .before .before .before .loop in
-    sym (l .inv .2 ∙ list-back (now (s .args .s)) (l .p) (omega arith) (l .least) _ _ (c .before .before .before .two-at .ensures .0) (c .before .before .two-at2 .ensures .0) (search needs))
+    let last = c .before .before in
+    let first = last .before in
+    let l = first .before .before .before .loop in
+    let s = first .before .before .before .before .before in
+    sym (l .inv .2 ∙ list-back (now (s .args .s)) (l .p) (omega arith) (l .least) _ _ (first .two-at .ensures .0) (last .two-at2 .ensures .0) (search needs))
 
 loop-again : tie.Need-loop-again Inv-loop μ-loop
 loop-again c =
-    let s = c .before .before .before .before .before .before .before .before in
-    let l = c .before .before .before .before .before .before .loop in
-    (omega arith, omega arith, l .inv .2 ∙ list-more (now (s .args .s)) (l .p) (omega arith) (l .least) _ _ (c .before .before .before .two-at .ensures .0) (c .before .before .two-at2 .ensures .0) (search needs) (search needs))
+    let last = c .before .before in
+    let first = last .before in
+    let l = first .before .before .before .loop in
+    let s = first .before .before .before .before .before in
+    (omega arith, omega arith, l .inv .2 ∙ list-more (now (s .args .s)) (l .p) (omega arith) (l .least) _ _ (first .two-at .ensures .0) (last .two-at2 .ensures .0) (search needs) (search needs))
 
 returns-4 : tie.Need-returns-4 Inv-loop μ-loop
 returns-4 c = let l = c .before .loop in sym (l .inv .2 ∙ rising-end (now (c .before .before .before .args .s)) (l .p) (l .least) (omega arith))
