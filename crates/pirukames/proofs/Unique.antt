@@ -16,7 +16,7 @@ use Rattle.reverse.proofs.Unique.{one-reading}
 use Rattle.pirukames.specs.Library.{coded, delivers, delivered, texts, recodes, strung}
 
 -- of a statement that equates the answer with x and the buffer with y
-both-unique : {A B : Type 0} {x : A} {y : B} (a b : A) (d e : B) → (a ≡ x) × (d ≡ y) → (b ≡ x) × (e ≡ y) → (a ≡ b) × (d ≡ e)
+pub both-unique : {A B : Type 0} {x : A} {y : B} (a b : A) (d e : B) → (a ≡ x) × (d ≡ y) → (b ≡ x) × (e ≡ y) → (a ≡ b) × (d ≡ e)
 both-unique a b d e p q = (one-answer a b (p .0) (q .0), one-answer d e (p .1) (q .1))
 
 module _ (flag : Bool) (bytes buffer : List ℕ) (a b : ℕ) (d e : List ℕ) where

@@ -20,6 +20,11 @@ abbrev pub coded : Answer ℕ → ℕ
 coded (gives n) = n
 coded (refuses k vs) = k * 4294967296 + getD vs 0 0
 
+-- an answer whose value is not asked for
+abbrev pub done : Answer ℕ → Answer ℕ
+done (gives n) = gives 0
+done (refuses k vs) = refuses k vs
+
 -- what is given, written into a lent buffer: the answer, and the buffer afterwards
 abbrev pub delivers : Answer (List ℕ) → List ℕ → Answer ℕ
 delivers (gives s) buffer = written s buffer

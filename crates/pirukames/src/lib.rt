@@ -11,6 +11,9 @@ ghost use Rattle.pirukames.specs.Library.{isSet, coded, delivers, delive
 ghost use Rattle.manual.specs.Lists.{lists, listLeft};
 ghost use Rattle.manual.specs.Reverse.{Reverse};
 ghost use Rattle.manual.specs.Room.{written, filled};
+
+mod coverage;
+
 use avr::Decoded;
 use avr::Encoded;
 use avr::Listed;
