@@ -13,6 +13,7 @@ ghost use Rattle.manual.specs.Reverse.{Reverse};
 ghost use Rattle.manual.specs.Room.{written, filled};
 
 mod coverage;
+mod intel_hex;
 
 use avr::Decoded;
 use avr::Encoded;
@@ -24,8 +25,6 @@ use decode::helper::Found;
 use decode::helper::find_one;
 use text::names::LENGTHS;
 use text::names::NAMES;
-
-mod intel_hex;
 
 // A text into the lent buffer, or refusal 3.
 fn give(s: &[u8], out: &mut [u8]) -> u64
