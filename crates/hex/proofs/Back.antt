@@ -1,14 +1,12 @@
 -- Reading what was written gives the image again (document 02, Ask 11).
 use mathlib.Core.Path.{_≡_, refl, ap, _∙_}
-use mathlib.Core.Bool.{Bool, true, false}
 use mathlib.Core.List.{List, [], _∷_, _++_, append-assoc, append-nil}
 use Prim.Native.Nat.{ℕ, zero, suc, _+_, _*_, _/_, _≤_, _<_}
 use native.Mathlib.Omega.{arith}
-use lib.Dec.{eqb}
-use lib.ListN.{length, getD, take, drop, length-append, length-drop, take-append-drop}
+use lib.ListN.{length, take, drop, length-append, length-drop, take-append-drop}
 use lib.Seq.{getD-drop}
 use borrow.Author.Tests.{ne-eqb}
-use Rattle.manual.specs.Answers.{Answer, gives}
+use Rattle.manual.specs.Answers.{gives}
 use Rattle.manual.specs.Spelt.{allDigits, bytesSpelt}
 use Rattle.manual.specs.Text.{digit, padded}
 use Rattle.cut.proofs.Parts.{Lacks}

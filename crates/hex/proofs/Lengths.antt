@@ -11,7 +11,7 @@ use Rattle.manual.specs.Choice.{pick}
 use Rattle.manual.specs.Answers.{gives, noRoom, tooLong}
 use Rattle.manual.specs.Room.{written}
 use Rattle.hex.specs.Hex.{most, endLine}
-use Rattle.hex.specs.HexText.{spelling, summed, dataLine, dataLines, hexOf, writes}
+use Rattle.hex.specs.HexText.{summed, dataLine, dataLines, hexOf, writes}
 use Rattle.hex.proofs.Spelling.{spelling-length}
 
 pub summed-long : (bs : List ℕ) → length (summed bs) ≡ length bs + 1

@@ -1,16 +1,15 @@
 -- A data line that was written, read: its bytes, its form, and that it has no fault.
-use mathlib.Core.Path.{_≡_, refl, _∙_}
+use mathlib.Core.Path.{_≡_, refl}
 use mathlib.Core.Bool.{true}
 use mathlib.Core.List.{List, [], _∷_, _++_}
 use Prim.Native.Nat.{ℕ, zero, suc, _+_, _-_, _*_, _/_, _%_, _≤_, _<_}
-use native.Mathlib.Nat.{zero-add}
 use native.Mathlib.Omega.{arith}
 use lib.ListN.{length, getD, drop}
 use lib.Seq.{take-at}
 use borrow.Author.Tests.{eq-eqb, ne-eqb, lt-ltb, le-ltb}
 use Rattle.manual.specs.Spelt.{allDigits}
 use Rattle.cut.proofs.Parts.{Lacks}
-use Rattle.hex.specs.Hex.{most, bytesOf, addressOf, endOf, dataOf, total, isSpelt, isFormed, faultOf, placed, gathers}
+use Rattle.hex.specs.Hex.{most, bytesOf, addressOf, dataOf, total, isSpelt, isFormed, faultOf, placed, gathers}
 use Rattle.hex.specs.HexText.{summed, dataLine}
 use Rattle.hex.proofs.Spelling.{Bytes, spelling-digits, spelling-back, spelling-lacks}
 use Rattle.hex.proofs.Lengths.{line-long}

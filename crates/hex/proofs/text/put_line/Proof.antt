@@ -1,5 +1,4 @@
 -- A colon, the head, the bytes, the sum and LF, one behind the other.
-use mathlib.Core.Path.{_≡_}
 use Prim.Native.Nat.{_+_}
 use denote.Ref.{now}
 use native.Mathlib.Omega.{arith}
