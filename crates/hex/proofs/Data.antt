@@ -10,7 +10,7 @@ use Rattle.manual.specs.Spelt.{isDigit, allDigits, bytesSpelt}
 use Rattle.spell.proofs.Digits.{both-true, digits-drop}
 use Rattle.spell.proofs.Spelt.{spelt-rest}
 use Rattle.hex.specs.Hex.{bytesOf, countOf, dataOf, isSpelt}
-use Rattle.hex.proofs.Formed.{Good, good, bytes-many}
+use Rattle.hex.proofs.Formed.{good, bytes-many}
 
 -- ---- parts of a line of digits
 

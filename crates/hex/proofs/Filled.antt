@@ -1,5 +1,5 @@
 -- The second pass, line after line: what has been written.
-use mathlib.Core.Path.{_≡_, refl, sym, ap, ap₂, _∙_, subst}
+use mathlib.Core.Path.{_≡_, refl, sym, ap, _∙_}
 use mathlib.Core.Bool.{true}
 use mathlib.Core.List.{List, [], _∷_, _++_, append-assoc}
 use Prim.Native.Nat.{ℕ, suc, _+_, _-_, _≤_}
@@ -12,7 +12,7 @@ use Rattle.put.proofs.Puts.{nothing, then, put-first}
 use Rattle.hex.specs.Hex.{lines, bytesOf, addressOf, endOf, typeOf, dataOf, isSpelt, faultOf, placed, gathers, reads, sizeOf, laid}
 use Rattle.hex.specs.Lines.{part, LineAt, givenBy}
 use Rattle.hex.proofs.Places.{no-lines}
-use Rattle.hex.proofs.Faults.{Taken, clean-spelt, clean-data}
+use Rattle.hex.proofs.Faults.{clean-spelt, clean-data}
 use Rattle.hex.proofs.Gathers.{clash, gathers-next, given-clean, given-done}
 
 -- the lines in front of p have been written

@@ -2,16 +2,15 @@
 use mathlib.Core.Path.{_≡_, refl, sym, ap, _∙_}
 use mathlib.Core.Bool.{Bool, true, false}
 use mathlib.Core.List.{List, [], _∷_, _++_}
-use Prim.Native.Nat.{ℕ, suc, _+_, _-_, _≤_, _<_}
+use Prim.Native.Nat.{ℕ, suc, _+_, _-_, _<_}
 use native.Mathlib.Omega.{arith}
-use lib.Dec.{eqb, ltb}
-use lib.ListN.{length, drop, replicate, length-append, length-drop, length-replicate, drop-of-length-le}
+use lib.Dec.{ltb}
+use lib.ListN.{length, replicate, length-append, length-replicate}
 use borrow.Author.Tests.{ne-eqb, lt-ltb, ltb-true, ltb-false}
-use Rattle.manual.specs.Choice.{pick}
 use Rattle.manual.specs.Answers.{Answer, gives, refuses, isGiven}
-use Rattle.hex.specs.Hex.{lines, bytesOf, addressOf, endOf, typeOf, dataOf, faultOf, placed, gathers}
+use Rattle.hex.specs.Hex.{bytesOf, addressOf, endOf, typeOf, dataOf, faultOf, placed, gathers}
 use Rattle.hex.proofs.Data.{data-long}
-use Rattle.hex.proofs.Faults.{Taken, clean-spelt, clean-data}
+use Rattle.hex.proofs.Faults.{clean-spelt, clean-data}
 
 -- what is given is no refusal
 pub clash : {a : Answer (List ℕ)} {k : ℕ} {vs : List ℕ} → isGiven a ≡ true → a ≡ refuses k vs → ⊥

@@ -2,14 +2,14 @@
 use mathlib.Core.Path.{_≡_, refl, sym, _∙_}
 use mathlib.Core.Bool.{Bool, true, false}
 use mathlib.Core.List.{List, [], _∷_}
-use Prim.Native.Nat.{ℕ, suc, _+_, _-_, _≤_, _<_}
+use Prim.Native.Nat.{ℕ, suc, _+_, _-_, _≤_}
 use native.Mathlib.Omega.{arith}
 use lib.Dec.{eqb, ltb}
 use lib.ListN.{length}
 use borrow.Author.Tests.{ltb-true, ltb-false, eqb-true, eqb-false}
 use Rattle.manual.specs.Answers.{Answer, gives, refuses}
 use Rattle.hex.specs.Hex.{most, lines, bytesOf, typeOf, faultOf, placed, gathers, reads, sizeOf}
-use Rattle.hex.proofs.Faults.{Taken, clean-data}
+use Rattle.hex.proofs.Faults.{clean-data}
 use Rattle.hex.proofs.Gathers.{gathers-fault, gathers-after, gathers-done, gathers-next, placed-long}
 
 -- every line's number that is answered from here on

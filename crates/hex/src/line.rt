@@ -10,7 +10,7 @@ ghost use Rattle.manual.specs.Spelt.{allDigits};
 ghost use Rattle.put.specs.Put.{Put};
 ghost use Rattle.hex.specs.Hex.{bytesOf, countOf, addressOf, endOf, typeOf, dataOf, total, isSpelt, isFormed, faultOf};
 
-fn wide(x: u8) -> usize
+pub(crate) fn wide(x: u8) -> usize
     ensures { λ r. ⌜ (r ≡ x) × (r < 256) ⌝ }
 {
     x as usize

@@ -12,6 +12,7 @@ use Rattle.manual.specs.Frames.{lineAnswer}
 use Rattle.manual.specs.Lists.{lists, listLeft}
 use Rattle.manual.specs.Reverse.{Reverse}
 use Rattle.hex.specs.Hex.{reads, sizeOf, laid}
+use Rattle.hex.specs.HexText.{writes, left}
 use Rattle.reverse.proofs.Unique.{one-reading}
 use Rattle.pirukames.specs.Library.{coded, delivers, delivered, texts, recodes, strung}
 
@@ -44,7 +45,10 @@ module _ (flag : Bool) (bytes buffer : List ℕ) (a b : ℕ) (d e : List ℕ) wh
       both-unique a b d e (p .1, p .2)
       (q .1 ∙ ap (λ (x : List (List ℕ)). coded (written (strung x) buffer)) k, q .2 ∙ ap (λ (x : List (List ℕ)). filled (strung x) buffer) k)
 
-module _ (text lent : List ℕ) (a b : ℕ) (d e : List ℕ) where
-  pub avr-read-hex-unique : (a ≡ coded (sizeOf (reads (length lent) text))) × (d ≡ laid (reads (length lent) text) lent)
-      → (b ≡ coded (sizeOf (reads (length lent) text))) × (e ≡ laid (reads (length lent) text) lent) → (a ≡ b) × (d ≡ e)
+module _ (given lent : List ℕ) (a b : ℕ) (d e : List ℕ) where
+  pub avr-read-hex-unique : (a ≡ coded (sizeOf (reads (length lent) given))) × (d ≡ laid (reads (length lent) given) lent)
+      → (b ≡ coded (sizeOf (reads (length lent) given))) × (e ≡ laid (reads (length lent) given) lent) → (a ≡ b) × (d ≡ e)
   avr-read-hex-unique = both-unique a b d e
+
+  pub avr-write-hex-unique : (a ≡ coded (writes given lent)) × (d ≡ left given lent) → (b ≡ coded (writes given lent)) × (e ≡ left given lent) → (a ≡ b) × (d ≡ e)
+  avr-write-hex-unique = both-unique a b d e
