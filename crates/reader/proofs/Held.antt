@@ -3,7 +3,6 @@
 --     looked, shut     a `&Reader` is looked into, and shut again as it was
 --     parted           what a reader owns is had once more, field by field, in the order in which the functions of `walk` take them
 --     moved            what a reader owns at another place
--- A field that is added changes `fields`, the facts below it and these, and no walk.
 use mathlib.Core.Path.{_≡_}
 use Prim.Native.Nat.{ℕ, _<_, _^_}
 use mathlib.Core.List.{List, [], _∷_}
