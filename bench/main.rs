@@ -93,7 +93,19 @@ fn taken(word: u16, flag: bool) -> usize {
     }
 }
 
-fn images(flag: bool) -> Vec<(&'static str, Vec<u8>)> {
+/// The bytes of the data lines of Intel HEX files, one file after another.
+fn code(files: impl Iterator<Item = String>) -> Vec<u8> {
+    let mut bytes = Vec::new();
+    for file in files {
+        for line in std::fs::read_to_string(&file).unwrap().lines().filter(|line| line.get(7..9) == Some("00")) {
+            let digit = |i: usize| u8::from_str_radix(&line[i..i + 2], 16).unwrap();
+            bytes.extend((0..digit(1) as usize).map(|i| digit(9 + 2 * i)));
+        }
+    }
+    bytes
+}
+
+fn images(flag: bool, code: &[u8]) -> Vec<(&'static str, Vec<u8>)> {
     let mut random = Random(0x9E37_79B9_7F4A_7C15);
     let mut words = |keep: &dyn Fn(u16) -> bool, n: usize| {
         let mut image = Vec::with_capacity(n);
@@ -112,8 +124,17 @@ fn images(flag: bool) -> Vec<(&'static str, Vec<u8>)> {
     let twos = words(&|w| taken(w, flag) == 2, SIZE / 2);
     let long = seeds.chunks(2).zip(seconds.chunks(2)).zip(twos.chunks(4)).flat_map(|((a, b), c)| [a, b, c].concat()).collect();
     let page = words(&|_| true, 4096);
-    let repeated = page.iter().copied().cycle().take(SIZE).collect();
-    vec![("random words", random_words), ("valid 2-byte words", two), ("one in three of 4 bytes", long), ("4,096 bytes repeated", repeated)]
+    let repeated = |bytes: &[u8]| bytes.iter().copied().cycle().take(SIZE).collect();
+    let mut all = vec![
+        ("random words", random_words),
+        ("valid 2-byte words", two),
+        ("one in three of 4 bytes", long),
+        ("4,096 bytes repeated", repeated(&page)),
+    ];
+    if !code.is_empty() {
+        all.push(("boot loaders repeated", repeated(code)));
+    }
+    all
 }
 
 /// Seconds that a run takes.
@@ -160,8 +181,9 @@ fn main() {
     println!("{:<26}{:>8}{:>12}{:>12}{:>9}", "image of 4 MiB", "target", "crate MB/s", "ours MB/s", "ratio");
     let mut out = vec![0u8; SIZE * 18];
     let mut text = String::with_capacity(SIZE * 18);
+    let code = code(std::env::args().skip(1));
     for flag in [false, true] {
-        for (name, image) in images(flag) {
+        for (name, image) in images(flag, &code) {
             theirs(&image, flag, &mut text);
             let n = ours(&image, flag, &mut out);
             assert!(&out[..n] == compared(&text, &image).as_bytes(), "the listings differ: {name}, {flag}");

@@ -6,7 +6,7 @@ use Prim.Native.Nat.{ℕ, _+_, _≤_, _<_}
 use native.Mathlib.Omega.{arith}
 use native.Mathlib.Nat.{zero-add}
 use lib.Dec.{leb}
-use lib.ListN.{length}
+use lib.ListN.{length, take, drop}
 use borrow.Author.Tests.{lt-ltb, le-ltb, le-leb, lt-leb}
 use Rattle.manual.specs.Choice.{both}
 use Rattle.manual.specs.Answers.{Answer, gives, noRoom, tooLong}
@@ -50,6 +50,14 @@ module _ (text buffer : List ℕ) where
   counted-over n e h =
       let l : length buffer < length text = omega arith in
       (rw (lt-ltb (length buffer) (length text) l, e), rw (lt-ltb (length buffer) (length text) l))
+
+  -- a text that stands at the start of an array, copied
+  pub line-copied : {n : ℕ} (array : List ℕ) → n ≡ length text → take n array ≡ text → n ≤ length buffer → (after : List ℕ)
+      → after ≡ take n array ++ drop (length (take n array)) buffer → (gives n ≡ written text buffer) × (after ≡ filled text buffer)
+  unfolding written filled
+  line-copied array e t h after c =
+      let l : length text ≤ length buffer = omega arith in
+      (rw (le-ltb (length buffer) (length text) l, e), c ∙ rw (le-ltb (length buffer) (length text) l, t))
 
   pub put-whole : (after : List ℕ) (r : ℕ) → Put buffer 0 text after r → (gives r ≡ written text buffer) × (after ≡ filled text buffer)
   unfolding written filled

@@ -1,4 +1,4 @@
--- The constant tables are the columns of the rows, the names and their lengths.
+-- The constant tables are the columns of the rows and their spans, the names and their lengths.
 use mathlib.Core.Path.{refl}
 use Rattle.manual.specs.Rows.{rows}
 use Rattle.manual.specs.Text.{mnemonic}

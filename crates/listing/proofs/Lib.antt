@@ -1,5 +1,8 @@
 pub mod Rooms
 pub mod Steps
+pub mod Turn
+pub mod Behind
+pub mod Parts
 pub mod Short
 pub mod Buffers
 pub mod LentTables

@@ -15,8 +15,8 @@ two-or-four : (b : Bool) → 2 ≤ pick b 2 4
 two-or-four true = omega arith
 two-or-four false = omega arith
 
-pub row-share : (i o r : ℕ) → i < 103 → r ≤ o + 21 → r + 9 ≤ o + 18 * rowAt i .bytes
-row-share i o r h m = omega (arith, form-bytes i h, two-or-four (eqb (formAt i / 524288) 0))
+pub row-share : (i o r n : ℕ) → i < 103 → r ≤ o + 30 → n ≡ rowAt i .bytes → r ≤ o + 18 * n
+row-share i o r n h m e = omega (arith, form-bytes i h, two-or-four (eqb (formAt i / 524288) 0))
 
 pub row-known : {f : Found} {i k w e : ℕ} → f ≡ found.Row i k w e → Known f → (i < 103) × (k ≡ formAt i)
 row-known e h = subst Known e h

@@ -17,7 +17,7 @@ use Rattle.decode.proofs.Laws.{cases}
 use Rattle.text.proofs.Longest.{no-text-longer-than-21}
 use Rattle.walk.proofs.Along.{lineHere, takes, unroll, along, none-left}
 use Rattle.walk.proofs.At.{lines-within}
-use Rattle.listing.proofs.Steps.{padded-length}
+use Rattle.listing.proofs.Steps.{padded-length, line-length}
 
 abbrev Bytes : List ℕ → Type 0
 Bytes bs = (k : ℕ) → getD bs k 0 < 256
@@ -47,10 +47,6 @@ here-share flag true b bs h = byte-share b
 here-share flag false b bs h =
     cases flag (b ∷ bs) (λ a. decodes flag (b ∷ bs) ≡ a → Share (lineOf a b))
     (λ x w e. instruction-share x (w .0) (no-text-longer-than-21 flag (b ∷ bs) h x e)) (λ two e. word-share (wordAt (b ∷ bs) 0)) (λ n k e. byte-share b) refl
-
-line-length : (o : ℕ) (l : Line) → length (listingLine o l) ≡ 8 + length (lineText l)
-unfolding listingLine
-line-length o l = rw length-append (omega (arith, padded-length 16 6 o))
 
 left-short : (flag tail : Bool) (bs : List ℕ) → Bytes bs → (o : ℕ) → length (printed (placed o (linesFrom flag tail bs))) ≤ 18 * length bs
 left-short flag =

@@ -1,27 +1,26 @@
--- A listing line put in pieces, and the listing of an image one line at a time.
-use mathlib.Core.Path.{_≡_, refl, sym, ap, _∙_, subst}
+-- Lines put one after another, and a line put in pieces.
+use mathlib.Core.Path.{_≡_, refl, sym, ap, ap₂, subst, _∙_}
 use mathlib.Core.Bool.{Bool, true, false}
 use mathlib.Core.List.{List, [], _∷_, _++_, append-assoc, map}
-use Prim.Native.Nat.{ℕ, zero, suc, pred, _+_, _/_, _≤_, _<_}
+use Prim.Native.Nat.{ℕ, zero, suc, _+_, _-_, _*_, _/_, _≤_, _<_}
+use native.Mathlib.Nat.{add-zero}
 use native.Mathlib.Omega.{arith}
 use native.Mathlib.Numerals.{add-one}
-use lib.ListN.{length, getD, drop, length-append, length-drop, drop-of-length-le}
-use lib.Seq.{drop-cons}
-use Rattle.avr.specs.declared.Instruction.{Instruction}
+use lib.ListN.{length, getD, take, drop, length-append, drop-of-length-le}
+use lib.Seq.{drop-cons, take-at}
 use Rattle.avr.specs.declared.Line.{Line}
 use Rattle.avr.specs.declared.Line.the-variants as line
-use Rattle.manual.specs.Choice.{pick}
 use Rattle.manual.specs.Text.{chars, padded}
-use Rattle.manual.specs.Answers.{Answer}
-use Rattle.manual.specs.Lines.{limit, lineOf, lengthOf, isByte, tailAfter, lineAt, linesOwed, linesFrom}
-use Rattle.manual.specs.Listing.{lineText, listingLine, placed, printed, listing}
+use Rattle.manual.specs.Listing.{lineText, listingLine, placed, printed}
 use Rattle.put.specs.Put.{Put}
-use Rattle.put.proofs.Puts.{then}
-use Rattle.decode.proofs.Steps.{short-2}
-use Rattle.walk.proofs.Along.{none-left}
-use Rattle.walk.proofs.At.{unroll-at, lines-within, left-none}
-use Rattle.listing.specs.declared.helper.Walked.{Walked}
-use Rattle.listing.specs.Lent.{Written, Listed, tailText}
+use Rattle.put.proofs.Puts.{then, nothing, put-first}
+use Rattle.walk.specs.Taking.{total}
+use Rattle.walk.proofs.Placed.{total-append, placed-append, printed-append}
+use Rattle.listing.specs.Lent.{Wrote, Fitted}
+use Rattle.listing.specs.Parts.{tailText}
+
+pub same-text : {d X Y d₁ : List ℕ} {o r : ℕ} → X ≡ Y → Put d o X d₁ r → Put d o Y d₁ r
+same-text {d} {X} {Y} {d₁} {o} {r} e p = subst (λ (Z : List ℕ). Put d o Z d₁ r) e p
 
 pub padded-length : (b k n : ℕ) → length (padded b k n) ≡ k
 unfolding padded
@@ -32,102 +31,116 @@ padded-length b (suc k) n =
 
 -- ---- a line
 
-byte-or-not : (b : Bool) → b ≡ pick b true false
-byte-or-not true = refl
-byte-or-not false = refl
-
--- where the tail has not begun, a `.byte` line begins it
-pub begins-tail : (l : Line) (tail : Bool) → tail ≡ false → isByte l ≡ tailAfter l tail
-begins-tail l tail e = rw e (byte-or-not (isByte l))
-
--- the offset and the text of a line make a listing line
-pub line-of : (at : ℕ) (l m : Line) (tail : Bool) → l ≡ m → isByte l ≡ tailAfter l tail
-    → {d d₁ d₂ : List ℕ} {o p : ℕ} {r : Walked} → Put d o (padded 16 6 at ++ chars ": ") d₁ p × (p ≡ o + 8) → Written l d₁ p d₂ r → Listed at m tail d o d₂ r
+-- the offset, the text and the LF of a line
+pub line-put : (at : ℕ) (l : Line) {d d₁ d₂ d₃ : List ℕ} {o p q r : ℕ} → Put d o (padded 16 6 at ++ chars ": ") d₁ p → Put d₁ p (lineText l) d₂ q
+    → Put d₂ q (10 ∷ []) d₃ r → Put d o (printed (placed at (l ∷ []))) d₃ r
 unfolding listingLine
-line-of at l m tail e t h w =
-    let k = h .1 in
-    let g : padded 16 6 at ++ (chars ": " ++ lineText l) ≡ (padded 16 6 at ++ chars ": ") ++ lineText l = sym (append-assoc (padded 16 6 at) (chars ": ") (lineText l)) in
-    rw (← e)
-    (record {
-      text = rw g (then (h .0) (w .text));
-      most = let q = w .most in omega arith;
-      share = let q = w .share in omega arith;
-      takes = w .takes;
-      begun = w .tail ∙ t;
-    })
+line-put at l h t f =
+    same-text
+    (ap (λ (x : List ℕ). x ++ (10 ∷ [])) (append-assoc (padded 16 6 at) (chars ": ") (lineText l)))
+    (then (then h t) f)
+
+pub line-length : (at : ℕ) (l : Line) → length (listingLine at l) ≡ 8 + length (lineText l)
+unfolding listingLine
+line-length at l = rw length-append (omega (arith, padded-length 16 6 at))
+
+-- ---- one after another
+
+text-append : (at : ℕ) (xs ys : List Line) (n : ℕ) → n ≡ total xs → printed (placed at xs) ++ printed (placed (at + n) ys) ≡ printed (placed at (xs ++ ys))
+text-append at xs ys n e = rw e (sym (ap printed (placed-append at xs ys) ∙ printed-append (placed at xs) (placed (at + total xs) ys)))
+
+pub wrote-none : (at : ℕ) (d : List ℕ) (o : ℕ) → o ≤ length d → Wrote at [] d o d 0 o
+wrote-none at d o h = record { text = nothing d o h; takes = refl; share = omega arith }
+
+pub wrote-then : {at : ℕ} {xs ys : List Line} {d d₁ d₂ : List ℕ} {o p q n m : ℕ} → Wrote at xs d o d₁ n p → Wrote (at + n) ys d₁ p d₂ m q
+    → Wrote at (xs ++ ys) d o d₂ (n + m) q
+wrote-then {at} {xs} {ys} {n = n} a b =
+    let e = a .takes in
+    let f = b .takes in
+    let g = total-append xs ys in
+    let s = a .share in
+    let t = b .share in
+    record { text = same-text (text-append at xs ys n (a .takes)) (then (a .text) (b .text)); takes = omega arith; share = omega arith }
+
+-- the same, from a place of the image to another
+pub wrote-turn : (base from at : ℕ) → from ≤ at → {xs ys : List Line} {d d₁ d₂ : List ℕ} {o p q n : ℕ} → Wrote (base + from) xs d o d₁ (at - from) p
+    → Wrote (base + at) ys d₁ p d₂ n q → Wrote (base + from) (xs ++ ys) d o d₂ (at + n - from) q
+wrote-turn base from at h {n = n} a b =
+    let e : base + at ≡ base + from + (at - from) = omega arith in
+    let f : at + n - from ≡ at - from + n = omega arith in
+    rw f (wrote-then a (rw e at b))
+
+-- at the start of the image
+pub wrote-first : {base : ℕ} {ls : List Line} {d d₁ : List ℕ} {o n r : ℕ} → Wrote (base + 0) ls d o d₁ n r → Wrote base ls d o d₁ n r
+wrote-first {base} w = rw (add-zero base) at w
+
+pub wrote-same : {at : ℕ} {xs ys : List Line} {d d₁ : List ℕ} {o n r : ℕ} → xs ≡ ys → Wrote at xs d o d₁ n r → Wrote at ys d o d₁ n r
+wrote-same {at} {xs} {ys} {d} {d₁} {o} {n} {r} e w = subst (λ (ls : List Line). Wrote at ls d o d₁ n r) e w
+
+pub fitted-none : (d : List ℕ) (o : ℕ) → Fitted [] d o d o
+fitted-none d o = record { next = sym (add-zero o); kept = refl; text = λ h. nothing d o (omega arith) }
+
+pub fitted-then : {xs ys d d₁ d₂ : List ℕ} {o p q : ℕ} → Fitted xs d o d₁ p → Fitted ys d₁ p d₂ q → Fitted (xs ++ ys) d o d₂ q
+fitted-then {xs} {ys} a b =
+    let e = length-append xs ys in
+    let n = a .next in
+    let m = b .next in
+    let k = a .kept in
+    record { next = omega arith; kept = b .kept ∙ k; text = λ h. then (a .text (omega arith)) (b .text (omega arith)) }
+
+pub fitted-same : {xs ys d d₁ : List ℕ} {o r : ℕ} → xs ≡ ys → Fitted xs d o d₁ r → Fitted ys d o d₁ r
+fitted-same {xs} {ys} {d} {d₁} {o} {r} e w = subst (λ (x : List ℕ). Fitted x d o d₁ r) e w
+
+-- lines behind lines, of which the first were put if there was room
+pub fitted-lines : (at : ℕ) (xs ys : List Line) {d d₁ d₂ : List ℕ} {o p q : ℕ} (n : ℕ) → n ≡ total xs
+    → Fitted (printed (placed at xs)) d o d₁ p → Fitted (printed (placed (at + n) ys)) d₁ p d₂ q → Fitted (printed (placed at (xs ++ ys))) d o d₂ q
+fitted-lines at xs ys n e a b = fitted-same (text-append at xs ys n e) (fitted-then a b)
 
 -- ---- the tail
 
-module _ (image : List ℕ) (at : ℕ) where
-  pub tail-step : at < length image → tailText at (drop at image) ≡ listingLine at (line.Byte (getD image at 0)) ++ (10 ∷ tailText (at + 1) (drop (at + 1) image))
+module _ (image : List ℕ) (base at : ℕ) where
+  pub tail-step : at < length image
+      → tailText (base + at) (drop at image) ≡ printed (placed (base + at) (line.Byte (getD image at 0) ∷ [])) ++ tailText (base + (at + 1)) (drop (at + 1) image)
   unfolding tailText
   tail-step h =
-      ap (λ (l : List ℕ). printed (placed at (map line.Byte l)))
-      (drop-cons image at 0 h ∙ ap (λ (n : ℕ). getD image at 0 ∷ drop n image) (sym (add-one at)))
+      let l = listingLine (base + at) (line.Byte (getD image at 0)) in
+      let e : base + at + 1 ≡ base + (at + 1) = omega arith in
+      ap (λ (bs : List ℕ). printed (placed (base + at) (map line.Byte bs))) (drop-cons image at 0 h)
+      ∙ ap₂ (λ (o n : ℕ). l ++ (10 ∷ printed (placed o (map line.Byte (drop n image))))) e (sym (add-one at))
+      ∙ sym (append-assoc l (10 ∷ []) (printed (placed (base + (at + 1)) (map line.Byte (drop (at + 1) image)))))
 
-  pub tail-end : length image ≤ at → tailText at (drop at image) ≡ []
+  pub tail-end : length image ≤ at → tailText (base + at) (drop at image) ≡ []
   unfolding tailText
   tail-end h = rw (drop-of-length-le image {i = at} h)
 
--- ---- the listing
+pub tail-length : (o : ℕ) (bs : List ℕ) → length (tailText o bs) ≡ 18 * length bs
+unfolding tailText lineText
+tail-length o [] = refl
+tail-length o (b ∷ bs) =
+    let i = tail-length (o + 1) bs in
+    let l = line-length o (line.Byte b) in
+    let k = padded-length 16 2 b in
+    rw length-append (omega arith)
 
--- what is left of a listing, from a state on
-abbrev pub left : Bool → List ℕ → ℕ → Bool → List ℕ
-left flag image at tail = printed (placed at (linesFrom flag tail (drop at image)))
+total-bytes : (bs : List ℕ) → total (map line.Byte bs) ≡ length bs
+total-bytes [] = refl
+total-bytes (b ∷ bs) = let e = total-bytes bs in omega arith
 
-pub left-step : (flag : Bool) (image : List ℕ) (at : ℕ) (tail : Bool) → length image ≤ limit → at < length image
-    → left flag image at tail
-    ≡ listingLine at (lineAt flag image at tail)
-    ++ (10 ∷ left flag image (at + lengthOf (lineAt flag image at tail)) (tailAfter (lineAt flag image at tail) tail))
-left-step flag image at tail short inside = ap (λ (ls : List Line). printed (placed at ls)) (unroll-at flag image at tail short inside)
-
--- with one byte left, or none, or in the tail, only `.byte` lines are left
-one-left : (flag : Bool) (b : ℕ) → linesFrom flag false (b ∷ []) ≡ line.Byte b ∷ []
-unfolding linesFrom linesOwed
-one-left flag b =
-    ap
-    (λ (a : Answer Instruction).
-    pick (isByte (lineOf a b)) (map line.Byte (b ∷ [])) (lineOf a b ∷ linesOwed flag (pred (lengthOf (lineOf a b))) []))
-    (sym (short-2 flag (b ∷ []) (omega arith)))
-
-few-left : (flag : Bool) (bs : List ℕ) → length bs ≤ 1 → linesFrom flag false bs ≡ map line.Byte bs
-few-left flag [] h = none-left flag false
-few-left flag (b ∷ []) h = one-left flag b
-few-left flag (b ∷ c ∷ bs) h = absurd (omega arith)
-
-pub left-in-tail : (flag : Bool) (image : List ℕ) (at : ℕ) → left flag image at true ≡ tailText at (drop at image)
-unfolding linesFrom tailText
-left-in-tail flag image at = refl
-
-pub left-few : (flag : Bool) (image : List ℕ) (at : ℕ) → length image ≤ at + 1 → left flag image at false ≡ tailText at (drop at image)
+pub wrote-tail : (at : ℕ) (bs : List ℕ) {d d₁ : List ℕ} {o r : ℕ} → Fitted (tailText at bs) d o d₁ r → o + 18 * length bs ≤ length d
+    → Wrote at (map line.Byte bs) d o d₁ (length bs) r
 unfolding tailText
-left-few flag image at h =
-    ap (λ (ls : List Line). printed (placed at ls)) (few-left flag (drop at image) (omega (arith, length-drop at image)))
+wrote-tail at bs f h =
+    let e = tail-length at bs in
+    let n = f .next in
+    record { text = f .text (omega arith); takes = sym (total-bytes bs); share = omega arith }
 
-pub from-start : (flag : Bool) (image : List ℕ) → length image ≤ limit → left flag image 0 false ≡ listing flag image
-unfolding listing
-from-start flag image h = ap (λ (ls : List Line). printed (placed 0 ls)) (sym (lines-within flag image h))
+-- ---- a text without the LF behind it
 
--- a turn of the listing: what has been written, the line at the state, and its LF leave the listing from the state behind it
-pub turn : (flag : Bool) (image : List ℕ) (at : ℕ) (tail : Bool) → length image ≤ limit → at < length image
-    → {d d₁ d₂ d₃ W : List ℕ} {o p q r : ℕ} → Put d o W d₁ p → W ++ left flag image at tail ≡ listing flag image
-    → Put d₁ p (listingLine at (lineAt flag image at tail)) d₂ q → Put d₂ q (10 ∷ []) d₃ r
-    → (n : ℕ) → n ≡ lengthOf (lineAt flag image at tail) → (t : Bool) → t ≡ tailAfter (lineAt flag image at tail) tail
-    → (X : List ℕ) × (Put d o X d₃ r × (X ++ left flag image (at + n) t ≡ listing flag image))
-turn flag image at tail short inside {d} {d₁} {d₂} {d₃} {W} so e l b n k t f = (
-  W ++ (listingLine at (lineAt flag image at tail) ++ (10 ∷ [])),
-  (then so (then l b), rw (k, f) (simp append-assoc (rw (sym (left-step flag image at tail short inside)) e))),
-)
+module _ (t : List ℕ) {d d₁ : List ℕ} {r : ℕ} (p : Put d 0 (t ++ (10 ∷ [])) d₁ r) where
+  pub with-end : r ≡ length t + 1
+  with-end = p .next ∙ rw length-append (omega arith)
 
--- the same in lengths: the line and its LF are part of what is left
-pub left-length : (flag : Bool) (image : List ℕ) (at : ℕ) (tail : Bool) → length image ≤ limit → at < length image
-    → (n : ℕ) → n ≡ lengthOf (lineAt flag image at tail) → (t : Bool) → t ≡ tailAfter (lineAt flag image at tail) tail
-    → length (left flag image at tail) ≡ length (listingLine at (lineAt flag image at tail)) + (1 + length (left flag image (at + n) t))
-left-length flag image at tail short inside n k t f =
-    ap length (left-step flag image at tail short inside) ∙ rw (length-append, k, f) (omega arith)
-
-pub left-end : (flag : Bool) (image : List ℕ) (at : ℕ) (tail : Bool) → length image ≤ at → left flag image at tail ≡ []
-left-end flag image at tail h = ap (λ (ls : List Line). printed (placed at ls)) (left-none flag tail image at h)
-
-pub same-text : {d X Y d₁ : List ℕ} {o r : ℕ} → X ≡ Y → Put d o X d₁ r → Put d o Y d₁ r
-same-text {d} {X} {Y} {d₁} {o} {r} e p = subst (λ (Z : List ℕ). Put d o Z d₁ r) e p
+  pub without-end : (n : ℕ) → n + 1 ≡ r → take n d₁ ≡ t
+  without-end n e =
+      let k : length t ≡ n = omega (arith, with-end) in
+      rw (p .holds, put-first d (t ++ (10 ∷ [])), append-assoc) (take-at t ((10 ∷ []) ++ drop (length (t ++ (10 ∷ []))) d) n k)

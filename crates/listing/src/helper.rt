@@ -1,16 +1,19 @@
-// Listing lines written straight into a lent buffer that has room for the longest: for this project's own crates.
+// Listing lines written straight into a lent buffer that has room for them: for this project's own crates.
 ghost use mathlib.Core.Path.{_≡_};
-ghost use mathlib.Core.List.{_++_};
-ghost use Prim.Native.Nat.{_+_, _-_, _*_, _<_, _≤_};
+ghost use mathlib.Core.Bool.{true, false};
+ghost use mathlib.Core.List.{[], _∷_, _++_};
+ghost use Prim.Native.Nat.{_+_, _-_, _*_, _<_, _≤_, min};
 ghost use lib.ListN.{length, drop};
 ghost use Rattle.avr.specs.declared.Line.the-variants as line;
 ghost use Rattle.manual.specs.Text.{chars, padded};
-ghost use Rattle.manual.specs.Lines.{limit, lineOf, lineAt};
-ghost use Rattle.manual.specs.Listing.{listing};
-ghost use Rattle.decode.specs.Found.{Tables, ofFound, Known};
+ghost use Rattle.manual.specs.Lines.{limit, lineOf, lineAt, linesFrom};
+ghost use Rattle.manual.specs.Listing.{placed, printed, listing};
+ghost use Rattle.decode.specs.Found.{ofFound, Known};
 ghost use Rattle.text.specs.Names.{nameBytes, nameLengths};
+ghost use Rattle.walk.specs.Taking.{total};
 ghost use Rattle.put.specs.Put.{Put};
-ghost use Rattle.listing.specs.Lent.{Lent, Written, Listed, tailText};
+ghost use Rattle.listing.specs.Lent.{Lent, Wrote, Fitted};
+ghost use Rattle.listing.specs.Parts.{wholes, begunBy, tailText, partLines};
 use decode::helper::Found;
 use decode::helper::find;
 use decode::helper::form_bytes;
@@ -29,10 +32,9 @@ use text::names::LENGTHS;
 use text::names::NAMES;
 use text::put_row;
 
-// A line that was written: how many bytes of the image it takes, whether the tail has begun behind it, and where the next text goes.
+// Lines that were written: how many bytes of the image they take, and where the next text goes.
 pub struct Walked {
     pub length: usize,
-    pub tail: bool,
     pub next: usize,
 }
 
@@ -45,43 +47,38 @@ fn put_head(out: &mut [u8], o: usize, at: usize) -> usize
     put_both(&mut *out, p, b':', b' ')
 }
 
-fn put_word(out: &mut [u8], o: usize, w: u16) -> Walked
-    requires { ⌜ o + 21 ≤ length (now out) ⌝ }
-    ensures { λ r. ⌜ Written (line.Word w) (now (out .entry)) o (now (out .exit)) r ⌝ }
+// A word that no row takes, and a byte, each as a line ended by LF.
+fn put_word(out: &mut [u8], o: usize, at: usize, w: u16) -> usize
+    requires { ⌜ (o + 30 ≤ length (now out)) × (at < 16777216) ⌝ }
+    ensures { λ r. ⌜ Wrote at (line.Word w ∷ []) (now (out .entry)) o (now (out .exit)) 2 r ⌝ }
 {
-    let p = put_bytes(&mut *out, o, b".word $");
-    let next = put_hex4(&mut *out, p, w);
-    Walked {
-        length: 2,
-        tail: false,
-        next,
-    }
+    let p = put_head(&mut *out, o, at);
+    let q = put_bytes(&mut *out, p, b".word $");
+    let r = put_hex4(&mut *out, q, w);
+    put_byte(&mut *out, r, 10)
 }
 
-fn put_one(out: &mut [u8], o: usize, b: u8) -> Walked
-    requires { ⌜ o + 9 ≤ length (now out) ⌝ }
-    ensures { λ r. ⌜ Written (line.Byte b) (now (out .entry)) o (now (out .exit)) r ⌝ }
+fn put_one(out: &mut [u8], o: usize, at: usize, b: u8) -> usize
+    requires { ⌜ (o + 18 ≤ length (now out)) × (at < 16777216) ⌝ }
+    ensures { λ r. ⌜ Wrote at (line.Byte b ∷ []) (now (out .entry)) o (now (out .exit)) 1 r ⌝ }
 {
-    let p = put_bytes(&mut *out, o, b".byte $");
-    let next = put_hex2(&mut *out, p, b);
-    Walked {
-        length: 1,
-        tail: true,
-        next,
-    }
+    let p = put_head(&mut *out, o, at);
+    let q = put_bytes(&mut *out, p, b".byte $");
+    let r = put_hex2(&mut *out, q, b);
+    put_byte(&mut *out, r, 10)
 }
 
-// The text of what was found, where b is the first byte that is left.
+// The line of what was found at an offset, ended by LF; nothing where bytes are missing.
 fn put_found(
     names: &[u8; 660],
     lengths: &[u8; 110],
     found: Found,
-    b: u8,
+    at: usize,
     out: &mut [u8],
     o: usize,
 ) -> Walked
-    requires { ⌜ (now names ≡ nameBytes) × (now lengths ≡ nameLengths) × Known found × (o + 21 ≤ length (now out)) ⌝ }
-    ensures { λ r. ⌜ Written (lineOf (ofFound found) b) (now (out .entry)) o (now (out .exit)) r ⌝ }
+    requires { ⌜ (now names ≡ nameBytes) × (now lengths ≡ nameLengths) × Known found × (o + 30 ≤ length (now out)) × (at < 16777216) ⌝ }
+    ensures { λ r. ⌜ Wrote at (wholes (lineOf (ofFound found) 0 ∷ [])) (now (out .entry)) o (now (out .exit)) (r .length) (r .next) ⌝ }
 {
     match found {
         Found::Row {
@@ -90,64 +87,24 @@ fn put_found(
             word,
             extra,
         } => {
-            let next = put_row(names, lengths, row, form, word, extra, &mut *out, o);
+            let p = put_head(&mut *out, o, at);
+            let q = put_row(names, lengths, row, form, word, extra, &mut *out, p);
+            let next = put_byte(&mut *out, q, 10);
             Walked {
                 length: form_bytes(form) as usize,
-                tail: false,
                 next,
             }
         }
-        Found::InvalidOpcode(w) => put_word(&mut *out, o, w),
-        Found::Short(_) => put_one(&mut *out, o, b),
+        Found::InvalidOpcode(w) => {
+            let next = put_word(&mut *out, o, at, w);
+            Walked { length: 2, next }
+        }
+        Found::Short(_) => Walked { length: 0, next: o },
     }
 }
 
-// The listing line of a state that is inside the image, without its LF. It moves nothing.
-pub(crate) fn put_line(
-    masks: &[u16; 103],
-    values: &[u16; 103],
-    targets: &[u8; 103],
-    spans: &[u16; 512],
-    forms: &[u32; 103],
-    names: &[u8; 660],
-    lengths: &[u8; 110],
-    image: &[u8],
-    at: usize,
-    tail: bool,
-    flag: bool,
-    out: &mut [u8],
-    o: usize,
-) -> Walked
-    requires { ⌜ Lent (now masks) (now values) (now targets) (now spans) (now forms) (now names) (now lengths) ⌝ }
-    requires { ⌜ (at < length (now image)) × (length (now image) ≤ limit) × (o + 29 ≤ length (now out)) ⌝ }
-    ensures { λ r. ⌜ Listed at (lineAt flag (now (image .entry)) at tail) tail (now (out .entry)) o (now (out .exit)) r ⌝ }
-{
-    let p = put_head(&mut *out, o, at);
-    let b = image[at];
-    if tail {
-        return put_one(&mut *out, p, b);
-    }
-    let found = find(masks, values, targets, spans, forms, &image[at..], flag);
-    put_found(names, lengths, found, b, &mut *out, p)
-}
-
-// The bytes from a position on, each a line of its own.
-fn put_tail(image: &[u8], from: usize, out: &mut [u8], o: usize) -> usize
-    requires { ⌜ (from ≤ length (now image)) × (length (now image) ≤ limit) × (o + 18 * (length (now image) - from) ≤ length (now out)) ⌝ }
-    ensures { λ r. ⌜ Put (now (out .entry)) o (tailText from (drop from (now (image .entry)))) (now (out .exit)) r ⌝ }
-{
-    let mut at = from;
-    let mut next = o;
-    while at < image.len() {
-        let p = put_head(&mut *out, next, at);
-        let w = put_one(&mut *out, p, image[at]);
-        next = put_byte(&mut *out, w.next, 10);
-        at += 1;
-    }
-    next
-}
-
-// The listing of an image, each line ended by LF, with the tables lent. Where two bytes are left there is room for any line.
+// The lines that begin from one place of an image on and before another, up to the first `.byte` line, each ended by LF. The image
+// stands at an offset `base`. A line takes 30 bytes at most, and 18 at most for each byte of the image.
 fn put_lines(
     masks: &[u16; 103],
     values: &[u16; 103],
@@ -157,45 +114,49 @@ fn put_lines(
     names: &[u8; 660],
     lengths: &[u8; 110],
     image: &[u8],
+    base: usize,
+    from: usize,
+    stop: usize,
     flag: bool,
     out: &mut [u8],
     o: usize,
-) -> usize
+) -> Walked
     requires { ⌜ Lent (now masks) (now values) (now targets) (now spans) (now forms) (now names) (now lengths) ⌝ }
-    requires { ⌜ (length (now image) ≤ limit) × (o + 18 * length (now image) ≤ length (now out)) ⌝ }
-    ensures { λ r. ⌜ Put (now (out .entry)) o (listing flag (now (image .entry))) (now (out .exit)) r ⌝ }
+    requires { ⌜ (base + length (now image) ≤ limit) × (from ≤ length (now image)) × (stop ≤ length (now image) - 1) × (o ≤ length (now out)) × (from < stop → o + 18 * (stop - from) + 12 ≤ length (now out)) ⌝ }
+    ensures { λ r. ⌜ Wrote (base + from) (begunBy stop from (linesFrom flag false (drop from (now (image .entry))))) (now (out .entry)) o (now (out .exit)) (r .length) (r .next) ⌝ }
 {
-    let mut at: usize = 0;
+    let mut at = from;
     let mut next = o;
-    while at + 1 < image.len() {
-        let w = put_line(
-            masks,
-            values,
-            targets,
-            spans,
-            forms,
-            names,
-            lengths,
-            image,
-            at,
-            false,
-            flag,
-            &mut *out,
-            next,
-        );
-        next = put_byte(&mut *out, w.next, 10);
+    while at < stop {
+        let found = find(masks, values, targets, spans, forms, &image[at..], flag);
+        let w = put_found(names, lengths, found, base + at, &mut *out, next);
+        next = w.next;
         at = at + w.length;
-        if w.tail {
-            return put_tail(image, at, &mut *out, next);
+        if w.length == 0 {
+            return Walked {
+                length: at - from,
+                next,
+            };
         }
     }
-    put_tail(image, at, &mut *out, next)
+    Walked {
+        length: at - from,
+        next,
+    }
 }
 
-// The listing of an image: 18 bytes of room for each of its bytes are enough.
-pub fn put_listing(image: &[u8], flag: bool, out: &mut [u8], o: usize) -> usize
-    requires { ⌜ (length (now image) ≤ limit) × (o + 18 * length (now image) ≤ length (now out)) ⌝ }
-    ensures { λ r. ⌜ Put (now (out .entry)) o (listing flag (now (image .entry))) (now (out .exit)) r ⌝ }
+// The same, for whoever writes lines a few at a time or all at once: the inner function has this one caller and is inlined.
+fn put_span(
+    image: &[u8],
+    base: usize,
+    from: usize,
+    stop: usize,
+    flag: bool,
+    out: &mut [u8],
+    o: usize,
+) -> Walked
+    requires { ⌜ (base + length (now image) ≤ limit) × (from ≤ length (now image)) × (stop ≤ length (now image) - 1) × (o ≤ length (now out)) × (from < stop → o + 18 * (stop - from) + 12 ≤ length (now out)) ⌝ }
+    ensures { λ r. ⌜ Wrote (base + from) (begunBy stop from (linesFrom flag false (drop from (now (image .entry))))) (now (out .entry)) o (now (out .exit)) (r .length) (r .next) ⌝ }
 {
     put_lines(
         &MASKS,
@@ -206,8 +167,147 @@ pub fn put_listing(image: &[u8], flag: bool, out: &mut [u8], o: usize) -> usize
         &NAMES,
         &LENGTHS,
         image,
+        base,
+        from,
+        stop,
         flag,
         &mut *out,
         o,
     )
+}
+
+// The bytes of a slice, where there is room for them; where they would end.
+fn put_fitting(out: &mut [u8], o: usize, s: &[u8]) -> usize
+    requires { ⌜ o + length (now s) < 18446744073709551616 ⌝ }
+    ensures { λ r. ⌜ Fitted (now (s .entry)) (now (out .entry)) o (now (out .exit)) r ⌝ }
+{
+    let next = o + s.len();
+    if next <= out.len() {
+        return put_bytes(&mut *out, o, s);
+    }
+    next
+}
+
+// The bytes from a place on, each a line of its own, where there is room for them.
+fn put_tail(image: &[u8], base: usize, from: usize, out: &mut [u8], o: usize) -> usize
+    requires { ⌜ (from ≤ length (now image)) × (base + length (now image) ≤ limit) × (o + 18 * (length (now image) - from) < 18446744073709551616) ⌝ }
+    ensures { λ r. ⌜ Fitted (tailText (base + from) (drop from (now (image .entry)))) (now (out .entry)) o (now (out .exit)) r ⌝ }
+{
+    let mut line = [0u8; 18];
+    let mut at = from;
+    let mut next = o;
+    while at < image.len() {
+        let n = put_one(&mut line, 0, base + at, image[at]);
+        next = put_fitting(&mut *out, next, &line[..n]);
+        at += 1;
+    }
+    next
+}
+
+// The place of the last byte, behind which no line goes on.
+fn last_of(n: usize) -> usize
+    ensures { λ r. ⌜ r ≡ n - 1 ⌝ }
+{
+    if n == 0 {
+        return 0;
+    }
+    n - 1
+}
+
+fn least(a: usize, b: usize) -> usize
+    ensures { λ r. ⌜ r ≡ min a b ⌝ }
+{
+    if b < a { b } else { a }
+}
+
+// The lines of an image that stands at an offset: all of them, or where more of it follows those in front of the first `.byte` line.
+// 18 bytes of room for each byte are enough.
+pub(crate) fn put_part(
+    image: &[u8],
+    base: usize,
+    more: bool,
+    flag: bool,
+    out: &mut [u8],
+    o: usize,
+) -> Walked
+    requires { ⌜ (base + length (now image) ≤ limit) × (o + 18 * length (now image) ≤ length (now out)) ⌝ }
+    ensures { λ r. ⌜ Wrote base (partLines flag more (now (image .entry))) (now (out .entry)) o (now (out .exit)) (r .length) (r .next) ⌝ }
+{
+    let w = put_span(image, base, 0, last_of(image.len()), flag, &mut *out, o);
+    if more {
+        return w;
+    }
+    let next = put_tail(image, base, w.length, &mut *out, w.next);
+    Walked {
+        length: image.len(),
+        next,
+    }
+}
+
+// The listing of an image: 18 bytes of room for each of its bytes are enough.
+pub fn put_listing(image: &[u8], flag: bool, out: &mut [u8], o: usize) -> usize
+    requires { ⌜ (length (now image) ≤ limit) × (o + 18 * length (now image) ≤ length (now out)) ⌝ }
+    ensures { λ r. ⌜ Put (now (out .entry)) o (listing flag (now (image .entry))) (now (out .exit)) r ⌝ }
+{
+    let w = put_part(image, 0, false, flag, &mut *out, o);
+    w.next
+}
+
+// The lines in front of the first `.byte` line by way of an array, 256 bytes of the image at a time, into a buffer that may be too short.
+fn copy_wholes(image: &[u8], base: usize, flag: bool, out: &mut [u8]) -> Walked
+    requires { ⌜ base + length (now image) ≤ limit ⌝ }
+    ensures { λ r. ⌜ Fitted (printed (placed base (partLines flag true (now (image .entry))))) (now (out .entry)) 0 (now (out .exit)) (r .next) × (r .length ≡ total (partLines flag true (now (image .entry)))) × (r .next ≤ 18 * r .length) ⌝ }
+{
+    let last = last_of(image.len());
+    let mut lines = [0u8; 4620];
+    let mut at: usize = 0;
+    let mut next: usize = 0;
+    let mut took: usize = 1;
+    while 0 < took {
+        let w = put_span(image, base, at, least(at + 256, last), flag, &mut lines, 0);
+        let n = w.next;
+        next = put_fitting(&mut *out, next, &lines[..n]);
+        at = at + w.length;
+        took = w.length;
+    }
+    Walked { length: at, next }
+}
+
+// What `put_part` writes, into a buffer that may be too short for it.
+pub(crate) fn copy_part(image: &[u8], base: usize, more: bool, flag: bool, out: &mut [u8]) -> Walked
+    requires { ⌜ base + length (now image) ≤ limit ⌝ }
+    ensures { λ r. ⌜ Fitted (printed (placed base (partLines flag more (now (image .entry))))) (now (out .entry)) 0 (now (out .exit)) (r .next) × (r .length ≡ total (partLines flag more (now (image .entry)))) ⌝ }
+{
+    let w = copy_wholes(image, base, flag, &mut *out);
+    if more {
+        return w;
+    }
+    let next = put_tail(image, base, w.length, &mut *out, w.next);
+    Walked {
+        length: image.len(),
+        next,
+    }
+}
+
+// The listing line of a state that is inside the image, ended by LF. It moves nothing.
+pub(crate) fn put_line(image: &[u8], at: usize, tail: bool, flag: bool, out: &mut [u8]) -> usize
+    requires { ⌜ (at < length (now image)) × (length (now image) ≤ limit) × (30 ≤ length (now out)) ⌝ }
+    ensures { λ r. ⌜ Put (now (out .entry)) 0 (printed (placed at (lineAt flag (now (image .entry)) at tail ∷ []))) (now (out .exit)) r ⌝ }
+{
+    if tail {
+        return put_one(&mut *out, 0, at, image[at]);
+    }
+    let w = put_span(
+        image,
+        0,
+        at,
+        least(at + 1, last_of(image.len())),
+        flag,
+        &mut *out,
+        0,
+    );
+    if w.length == 0 {
+        return put_one(&mut *out, 0, at, image[at]);
+    }
+    w.next
 }

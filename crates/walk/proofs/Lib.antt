@@ -1,4 +1,5 @@
 pub mod Along
 pub mod At
 pub mod Theorems
+pub mod Placed
 pub mod Unique

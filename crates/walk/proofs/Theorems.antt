@@ -20,7 +20,7 @@ use Rattle.walk.proofs.At.{lines-within}
 
 -- ---- the lengths
 
-left-adds-up : (flag tail : Bool) (bs : List ℕ) → total (linesFrom flag tail bs) ≡ length bs
+pub left-adds-up : (flag tail : Bool) (bs : List ℕ) → total (linesFrom flag tail bs) ≡ length bs
 left-adds-up flag =
     along flag (λ tail bs. total (linesFrom flag tail bs) ≡ length bs) (λ tail. rw none-left)
     (λ tail b bs ih.

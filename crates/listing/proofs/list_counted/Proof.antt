@@ -1,35 +1,36 @@
 -- Counted, and then written where there is room.
+use mathlib.Core.Path.{_≡_, ap, _∙_}
 use denote.Ref.{now}
 use native.Mathlib.Omega.{arith}
+use native.Mathlib.Nat.{zero-add}
 use borrow.Author.Needs.{needs}
-use Rattle.manual.specs.Listing.{listing}
-use Rattle.manual.specs.Rows.{rows}
-use Rattle.manual.specs.Text.{mnemonic}
-use Rattle.rows.specs.Kinds.{kinds}
-use Rattle.rows.specs.Columns.{maskList, valueList, targetList, formList}
-use Rattle.rows.specs.Spans.{spanList}
-use Rattle.text.specs.Names.{nameList, nameBytes, nameLengths}
-use Rattle.listing.proofs.LentTables.{lent}
+use lib.ListN.{length}
 use Rattle.listing.proofs.Buffers.{counted-over, put-whole}
+use Rattle.listing.proofs.Steps.{fitted-same}
+use Rattle.listing.proofs.Parts.{part-listing}
 use Rattle.listing.proofs.list_counted.Statement.{statement}
 use Rattle.listing.proofs.list_counted.Tie as tie
 
-listing-length-requires : tie.Need-listing-length-requires
-unfolding rows kinds maskList valueList targetList formList spanList mnemonic nameList nameBytes nameLengths
-listing-length-requires c κs = (lent, search needs)
-
 returns : tie.Need-returns
 returns c =
-    let n = c .before in
-    counted-over _ _ (n .listing-length .result) (n .listing-length .ensures) (c .if1 .taken)
-
-copy-lines-requires : tie.Need-copy-lines-requires
-unfolding rows kinds maskList valueList targetList formList spanList mnemonic nameList nameBytes nameLengths
-copy-lines-requires c κs = (lent, search needs)
+    let n = c .before .before in
+    let s = n .before .before .before .before in
+    let f = fitted-same (part-listing (s .args .flag) (now (s .args .image)) (s .pre)) (n .copy-part .ensures .0) in
+    counted-over _ _ (n .copy-part .result .next) (f .next ∙ zero-add _) (c .if1 .taken)
 
 returns-2 : tie.Need-returns-2
-returns-2 c = put-whole _ _ _ (c .before .before .copy-lines .result) (c .before .before .copy-lines .ensures)
+returns-2 c =
+    let p = c .before .before in
+    let i = p .before .before in
+    let n = i .before .before in
+    let s = n .before .before .before .before in
+    let e = part-listing (s .args .flag) (now (s .args .image)) (s .pre) in
+    let f = fitted-same e (n .copy-part .ensures .0) in
+    let g = fitted-same e (p .copy-part2 .ensures .0) in
+    let k = f .next in
+    put-whole _ _ _ (p .copy-part2 .result .next) (g .text (omega arith))
 
 pub list-counted-spec : {M : Type 1} → statement M
 list-counted-spec =
-    tie.close (tie.spec listing-length-requires returns copy-lines-requires (λ c. search needs) returns-2)
+    tie.close
+    (tie.spec (λ c. search needs) (λ c κs. search needs) returns (λ c κs. search needs) (λ c. search needs) returns-2)

@@ -1,101 +1,107 @@
--- What has been written, and the listing from the state on.
-use Prim.Native.Nat.{ℕ, _+_, _-_, _*_, _≤_}
+-- The lines that have been written, and those that begin from the state on and before the place to stop at.
+use Prim.Native.Nat.{ℕ, _+_, _-_, _*_, _≤_, _<_}
 use mathlib.Core.Path.{_≡_, refl, sym, ap, _∙_}
-use mathlib.Core.Bool.{Bool, true, false}
-use mathlib.Core.List.{List, [], _∷_, _++_}
+use mathlib.Core.Bool.{false}
+use mathlib.Core.List.{List, [], _++_, append-nil}
 use denote.Ref.{now}
 use native.Mathlib.Omega.{arith}
 use borrow.Author.Needs.{needs}
 use lib.ListN.{length, drop}
-use Rattle.manual.specs.Listing.{listing}
-use Rattle.put.specs.Put.{Put}
-use Rattle.put.proofs.Puts.{then, nothing}
-use Rattle.walk.proofs.At.{at-length}
-use Rattle.listing.specs.Lent.{tailText}
-use Rattle.listing.proofs.Steps.{left, left-in-tail, left-few, from-start, turn, same-text}
+use Rattle.avr.specs.declared.Line.{Line}
+use Rattle.manual.specs.Lines.{linesFrom}
+use Rattle.decode.specs.Found.{ofFound}
+use Rattle.put.proofs.Puts.{length-kept}
+use Rattle.listing.specs.Lent.{Wrote}
+use Rattle.listing.specs.Parts.{begunBy}
+use Rattle.listing.proofs.Steps.{wrote-none, wrote-turn, wrote-same}
+use Rattle.listing.proofs.Turn.{begun-none, positive, found-here, turn-within, turn-last, turn-next}
 use Rattle.listing.proofs.helper.put_lines.Statement.{statement}
 use Rattle.listing.proofs.helper.put_lines.Tie as tie
 
 abbrev Inv-loop : tie.InvT-loop
-Inv-loop masks values targets spans forms names lengths image flag out₀ o at₀ next₀ out at next =
-    (at ≤ length image) × (length out ≡ length out₀) × (next + 18 * (length image - at) ≤ length out₀)
-    × ((W : List ℕ) × (Put out₀ o W out next × (W ++ left flag image at false ≡ listing flag image)))
+Inv-loop masks values targets spans forms names lengths image base from stop flag out₀ o at₀ next₀ out at next =
+    (from ≤ at) × (at ≤ length image) × (length out ≡ length out₀) × (at < stop → next + 18 * (stop - at) + 12 ≤ length out₀)
+    × ((ms : List Line)
+    × (Wrote (base + from) ms out₀ o out (at - from) next
+    × (ms ++ begunBy stop at (linesFrom flag false (drop at image)) ≡ begunBy stop from (linesFrom flag false (drop from image)))))
 
 abbrev μ-loop : tie.MeasureT-loop
-μ-loop masks values targets spans forms names lengths image flag out₀ o at₀ next₀ out at next = length image - at
+μ-loop masks values targets spans forms names lengths image base from stop flag out₀ o at₀ next₀ out at next = stop - at
 
 loop-holds : tie.Need-loop-holds Inv-loop μ-loop
 loop-holds c =
     let s = c .before .before in
-    (omega arith, refl, omega arith, ([], (nothing _ _ (omega arith), from-start (s .args .flag) (now (s .args .image)) (s .pre .1 .0))))
+    let z : s .args .from - s .args .from ≡ 0 = omega arith in
+    (omega arith, omega arith, refl, s .pre .1 .4, ([], (rw z (wrote-none _ _ _ (omega arith)), refl)))
 
-put-line-requires : tie.Need-put-line-requires Inv-loop μ-loop
-put-line-requires c κs = (c .before .before .before .before .before .pre .0, (omega arith, omega arith, omega arith))
+find-requires : tie.Need-find-requires Inv-loop μ-loop
+find-requires c κs = c .before .before .before .before .before .pre .0 .tables
 
-put-byte-requires : tie.Need-put-byte-requires Inv-loop μ-loop
-put-byte-requires c κs = omega (arith, c .before .before .before .put-line .ensures .most)
+put-found-requires : tie.Need-put-found-requires Inv-loop μ-loop
+put-found-requires c κs =
+    let k = c .before .before .before .before in
+    let s = k .before .before .before in
+    let t : k .loop .at < s .args .stop = omega arith in
+    (s .pre .0 .name, s .pre .0 .size, c .before .find .ensures .1, omega (arith, k .loop .inv .3 t), omega arith)
 
 add-at : tie.Need-add-at Inv-loop μ-loop
 add-at c =
-    let l = c .before .before .before .before .before .before .before in
-    let k = l .before .before .before in
+    let p = c .before .before .before in
+    let f = p .before .before in
+    let k = f .before .before .before in
     let s = k .before .before .before in
-    let n = at-length (s .args .flag) (now (s .args .image)) (k .loop .at) false (s .pre .1 .0) (omega arith) in
-    omega (arith, l .put-line .ensures .takes)
-
-put-tail-requires : tie.Need-put-tail-requires Inv-loop μ-loop
-put-tail-requires c κs =
-    let b = c .before .before .before .before .before in
-    let l = b .before .before .before .before in
-    let k = l .before .before .before in
-    let s = k .before .before .before in
-    let n = at-length (s .args .flag) (now (s .args .image)) (k .loop .at) false (s .pre .1 .0) (omega arith) in
-    let e = l .put-line .ensures .takes in
-    let f = l .put-line .ensures .share in
-    let g = b .put-byte .ensures .next in
-    (omega arith, omega arith, omega arith)
+    let e = found-here (s .args .flag) (now (s .args .image)) (k .loop .at) (s .args .stop) (omega arith) (omega arith) (omega arith) (ofFound (f .find .result)) (f .find .ensures .0) in
+    omega (arith, turn-within (s .args .flag) (now (s .args .image)) (k .loop .at) (s .args .stop) (omega arith) (omega arith) (omega arith) _ (wrote-same e (p .put-found .ensures) .takes))
 
 returns : tie.Need-returns Inv-loop μ-loop
 returns c =
-    let i = c .before .before .before .before in
-    let b = i .before .before .before .before in
-    let l = b .before .before .before .before in
-    let k = l .before .before .before in
+    let p = c .before .before .before .before .before in
+    let f = p .before .before in
+    let k = f .before .before .before in
     let s = k .before .before .before in
-    let t = turn (s .args .flag) (now (s .args .image)) (k .loop .at) false (s .pre .1 .0) (omega arith) (k .loop .inv .3 .1 .0) (k .loop .inv .3 .1 .1) (l .put-line .ensures .text)
-    (b .put-byte .ensures) _ (l .put-line .ensures .takes) true (sym (i .if1 .taken) ∙ l .put-line .ensures .begun) in
-    same-text (ap (λ (x : List ℕ). t .0 ++ x) (sym (left-in-tail (s .args .flag) (now (s .args .image)) (k .loop .at + l .put-line .result .length))) ∙ t .1 .1)
-    (then (t .1 .0) (c .before .before .put-tail .ensures))
+    let i = k .loop .inv in
+    let e = found-here (s .args .flag) (now (s .args .image)) (k .loop .at) (s .args .stop) (omega arith) (omega arith) (omega arith) (ofFound (f .find .result)) (f .find .ensures .0) in
+    let w = wrote-same e (p .put-found .ensures) in
+    wrote-same
+    (turn-last (s .args .flag) (now (s .args .image)) (k .loop .at) (s .args .stop) (omega arith) (omega arith) (omega arith) (i .4 .0) (i .4 .1 .1) _ (w .takes) (c .if1 .taken))
+    (wrote-turn (s .args .base) (s .args .from) (k .loop .at) (i .0) (i .4 .1 .0) w)
 
 loop-less : tie.Need-loop-less Inv-loop μ-loop
-loop-less c =
-    let l = c .before .before .before .before .before .before .before .before in
-    let k = l .before .before .before in
-    let s = k .before .before .before in
-    let n = at-length (s .args .flag) (now (s .args .image)) (k .loop .at) false (s .pre .1 .0) (omega arith) in
-    omega (arith, l .put-line .ensures .takes)
+loop-less c = omega (arith, positive _ (c .if1 .left))
 
 loop-again : tie.Need-loop-again Inv-loop μ-loop
 loop-again c =
-    let b = c .before .before .before .before in
-    let l = b .before .before .before .before in
-    let k = l .before .before .before in
+    let p = c .before .before .before .before .before in
+    let f = p .before .before in
+    let k = f .before .before .before in
     let s = k .before .before .before in
-    let n = at-length (s .args .flag) (now (s .args .image)) (k .loop .at) false (s .pre .1 .0) (omega arith) in
-    let e = l .put-line .ensures .takes in
-    let f = l .put-line .ensures .share in
-    let g = b .put-byte .ensures .next in
-    let t = turn (s .args .flag) (now (s .args .image)) (k .loop .at) false (s .pre .1 .0) (omega arith) (k .loop .inv .3 .1 .0) (k .loop .inv .3 .1 .1) (l .put-line .ensures .text)
-    (b .put-byte .ensures) _ (l .put-line .ensures .takes) false (sym (c .if1 .left) ∙ l .put-line .ensures .begun) in
-    (omega arith, omega arith, omega arith, (t .0, (t .1 .0, t .1 .1)))
+    let i = k .loop .inv in
+    let t : k .loop .at < s .args .stop = omega arith in
+    let e = found-here (s .args .flag) (now (s .args .image)) (k .loop .at) (s .args .stop) (omega arith) (omega arith) t (ofFound (f .find .result)) (f .find .ensures .0) in
+    let w = wrote-same e (p .put-found .ensures) in
+    let n = turn-within (s .args .flag) (now (s .args .image)) (k .loop .at) (s .args .stop) (omega arith) (omega arith) t _ (w .takes) in
+    let r = i .3 t in
+    let h = w .share in (
+      omega arith,
+      omega arith,
+      length-kept (w .text) ∙ i .2,
+      λ q. omega arith,
+      (
+        _,
+        (
+          wrote-turn (s .args .base) (s .args .from) (k .loop .at) (i .0) (i .4 .1 .0) w,
+          turn-next (s .args .flag) (now (s .args .image)) (k .loop .at) (s .args .stop) (omega arith) (omega arith) t (i .4 .0) (i .4 .1 .1) _ (w .takes) (c .if1 .left),
+        ),
+      ),
+    )
 
 returns-2 : tie.Need-returns-2 Inv-loop μ-loop
 returns-2 c =
-    let k = c .before .before .before .before .before in
+    let k = c .before in
     let s = k .before .before .before in
-    let i = k .loop .inv .3 in
-    same-text (ap (λ (x : List ℕ). i .0 ++ x) (sym (left-few (s .args .flag) (now (s .args .image)) (k .loop .at) (omega arith))) ∙ i .1 .1)
-    (then (i .1 .0) (c .before .before .put-tail2 .ensures))
+    let i = k .loop .inv .4 in
+    let z = begun-none (s .args .stop) (k .loop .at) (linesFrom (s .args .flag) false (drop (k .loop .at) (now (s .args .image)))) (omega arith) in
+    wrote-same (sym (append-nil (i .0)) ∙ ap (λ (ls : List Line). i .0 ++ ls) (sym z) ∙ i .1 .1) (i .1 .0)
 
 pub put-lines-spec : {M : Type 1} → statement M
 put-lines-spec =
@@ -105,14 +111,17 @@ put-lines-spec =
     μ-loop
     loop-holds
     (λ c. search needs)
-    put-line-requires
-    put-byte-requires
+    (λ c. search needs)
+    (λ c. search needs)
+    find-requires
+    (λ c. search needs)
+    put-found-requires
     add-at
-    put-tail-requires
+    (λ c. search needs)
     (λ c. search needs)
     returns
     loop-less
     loop-again
-    (λ c κs. search needs)
+    (λ c. search needs)
     (λ c. search needs)
     returns-2)

@@ -1,18 +1,17 @@
--- The constant tables are lent.
+-- The lines of an image that nothing follows.
+use native.Mathlib.Omega.{arith}
+use denote.Ref.{now}
 use borrow.Author.Needs.{needs}
-use Rattle.manual.specs.Rows.{rows}
-use Rattle.manual.specs.Text.{mnemonic}
-use Rattle.rows.specs.Kinds.{kinds}
-use Rattle.rows.specs.Columns.{maskList, valueList, targetList, formList}
-use Rattle.rows.specs.Spans.{spanList}
-use Rattle.text.specs.Names.{nameList, nameBytes, nameLengths}
-use Rattle.listing.proofs.LentTables.{lent}
+use Rattle.listing.proofs.Steps.{same-text}
+use Rattle.listing.proofs.Parts.{part-listing}
 use Rattle.listing.proofs.helper.put_listing.Statement.{statement}
 use Rattle.listing.proofs.helper.put_listing.Tie as tie
 
-put-lines-requires : tie.Need-put-lines-requires
-unfolding rows kinds maskList valueList targetList formList spanList mnemonic nameList nameBytes nameLengths
-put-lines-requires c κs = (lent, search needs)
+returns : tie.Need-returns
+returns c =
+    let p = c .before .before in
+    let s = p .before .before .before .before in
+    same-text (part-listing (s .args .flag) (now (s .args .image)) (s .pre .0)) (p .put-part .ensures .text)
 
 pub put-listing-spec : {M : Type 1} → statement M
-put-listing-spec = tie.close (tie.spec put-lines-requires (λ c. search needs) (λ c. search needs))
+put-listing-spec = tie.close (tie.spec (λ c κs. (omega arith, omega arith)) (λ c. search needs) returns)
