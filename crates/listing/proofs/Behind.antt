@@ -15,7 +15,7 @@ use Rattle.manual.specs.Choice.{pick, both}
 use Rattle.manual.specs.Answers.{Answer}
 use Rattle.manual.specs.Lines.{lineOf, lengthOf, isByte, tailAfter, headLine, linesOwed, linesFrom}
 use Rattle.decode.proofs.Steps.{short-2}
-use Rattle.walk.specs.Taking.{total}
+use Rattle.walk.specs.Theorems.{total}
 use Rattle.walk.proofs.Along.{lineHere, takes, unroll, along, none-left}
 use Rattle.listing.specs.Parts.{begunBy, partOf, partLines}
 

@@ -12,7 +12,7 @@ use Rattle.avr.specs.declared.Line.the-variants as line
 use Rattle.manual.specs.Choice.{pick, both}
 use Rattle.manual.specs.Lines.{limit, lineAt, linesFrom}
 use Rattle.manual.specs.Listing.{placed, printed, listing}
-use Rattle.walk.specs.Taking.{total}
+use Rattle.walk.specs.Theorems.{total}
 use Rattle.walk.proofs.At.{unroll-at, lines-within}
 use Rattle.walk.proofs.Theorems.{left-adds-up}
 use Rattle.walk.proofs.Placed.{total-append}

@@ -14,7 +14,7 @@ use Rattle.manual.specs.Text.{chars, padded}
 use Rattle.manual.specs.Listing.{lineText, listingLine, placed, printed}
 use Rattle.put.specs.Put.{Put}
 use Rattle.put.proofs.Puts.{then, nothing, put-first}
-use Rattle.walk.specs.Taking.{total}
+use Rattle.walk.specs.Theorems.{total}
 use Rattle.walk.proofs.Placed.{total-append, placed-append, printed-append}
 use Rattle.listing.specs.Lent.{Wrote, Fitted}
 use Rattle.listing.specs.Parts.{tailText}

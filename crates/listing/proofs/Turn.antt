@@ -14,7 +14,7 @@ use Rattle.manual.specs.Choice.{pick}
 use Rattle.manual.specs.Answers.{Answer, gives, refuses}
 use Rattle.manual.specs.Decode.{decodes}
 use Rattle.manual.specs.Lines.{limit, lineOf, lengthOf, isByte, lineAt, linesFrom}
-use Rattle.walk.specs.Taking.{total}
+use Rattle.walk.specs.Theorems.{total}
 use Rattle.walk.proofs.At.{is-line, at-length, unroll-at}
 use Rattle.listing.specs.Parts.{wholes, begunBy}
 

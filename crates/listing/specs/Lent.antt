@@ -7,7 +7,7 @@ use Rattle.avr.specs.declared.Line.{Line}
 use Rattle.manual.specs.Listing.{placed, printed}
 use Rattle.decode.specs.Found.{Tables}
 use Rattle.text.specs.Names.{nameBytes, nameLengths}
-use Rattle.walk.specs.Taking.{total}
+use Rattle.walk.specs.Theorems.{total}
 use Rattle.put.specs.Put.{Put}
 
 -- the lent tables are the columns of the rows and their spans, and the names and their lengths

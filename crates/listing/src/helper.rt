@@ -10,7 +10,7 @@ ghost use Rattle.manual.specs.Lines.{limit, lineOf, lineAt, linesFrom};
 ghost use Rattle.manual.specs.Listing.{placed, printed, listing};
 ghost use Rattle.decode.specs.Found.{ofFound, Known};
 ghost use Rattle.text.specs.Names.{nameBytes, nameLengths};
-ghost use Rattle.walk.specs.Taking.{total};
+ghost use Rattle.walk.specs.Theorems.{total};
 ghost use Rattle.put.specs.Put.{Put};
 ghost use Rattle.listing.specs.Lent.{Lent, Wrote, Fitted};
 ghost use Rattle.listing.specs.Parts.{wholes, begunBy, tailText, partLines};

@@ -7,7 +7,7 @@ use native.Mathlib.Omega.{arith}
 use Rattle.avr.specs.declared.Line.{Line}
 use Rattle.manual.specs.Lines.{lengthOf}
 use Rattle.manual.specs.Listing.{listingLine, placed, printed}
-use Rattle.walk.specs.Taking.{total}
+use Rattle.walk.specs.Theorems.{total}
 
 pub total-append : (xs ys : List Line) → total (xs ++ ys) ≡ total xs + total ys
 total-append [] ys = omega arith

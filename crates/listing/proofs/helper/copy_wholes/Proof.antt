@@ -13,7 +13,7 @@ use Rattle.manual.specs.Lines.{linesFrom}
 use Rattle.manual.specs.Listing.{placed, printed}
 use Rattle.put.proofs.Puts.{length-kept}
 use Rattle.put.proofs.Fit.{at-start, start-length}
-use Rattle.walk.specs.Taking.{total}
+use Rattle.walk.specs.Theorems.{total}
 use Rattle.walk.proofs.Placed.{total-append}
 use Rattle.listing.specs.Lent.{Fitted}
 use Rattle.listing.specs.Parts.{partLines, begunBy}
