@@ -10,6 +10,11 @@
  *   2  bytes are missing                              value: bytes needed, 2 or 4
  *   3  the buffer is too short                        value: bytes needed
  *   5  the image is longer than 8,388,608 bytes
+ *   6  a line of offsets is not six upper-case hexadecimal digits
+ *  40  a map does not have 8,192 bytes
+ *  41  an odd offset
+ *  42  an offset past 131,071
+ *  43  a bad list of ranges
  */
 #ifndef PIRUKAMES_H
 #define PIRUKAMES_H
@@ -37,6 +42,32 @@ uint64_t avr_reverse(const uint8_t *line, size_t line_length, uint8_t flag, uint
 
 /* What the frame program prints for a line of hexadecimal digits, `bad frame` included. Refusal 3. 1,200 bytes of room are enough. */
 uint64_t avr_frame(const uint8_t *line, size_t line_length, uint8_t *out, size_t out_length);
+
+/* ---- Coverage maps: 8,192 bytes, program word w in bit w mod 8 of byte w div 8. A refused call changes no bit; refusal 40 comes first. */
+
+/* Visits the word of a line, 6 digits without LF: its offset in 3 bytes, high byte first. 0. Refusals 40, 6, 41, 42. */
+uint64_t avr_visit(const uint8_t *line, size_t line_length, uint8_t *map, size_t map_length);
+
+/* Visits each line of a text as avr_visit does and drops those that it refuses: how many were dropped. Lines end in LF; a last one without
+ * it counts if not empty. Refusal 40. A text of less than 2^32 bytes at a time: a larger count would read as a refusal. */
+uint64_t avr_visit_all(const uint8_t *text, size_t text_length, uint8_t *map, size_t map_length);
+
+/* How many words are visited. Refusal 40. */
+uint64_t avr_visited(const uint8_t *map, size_t map_length);
+
+/* Adds the words of another map. 0. Refusal 40. */
+uint64_t avr_join_maps(const uint8_t *other, size_t other_length, uint8_t *map, size_t map_length);
+
+/* The map as rising ranges that don't touch, 4 bytes each: first word, last word, low byte first. Refusals 40, 3. 131,072 bytes of room
+ * are always enough, and make it write in one pass. */
+uint64_t avr_write_ranges(const uint8_t *map, size_t map_length, uint8_t *out, size_t out_length);
+
+/* Makes the map the words of such ranges and no others: how many ranges. Refusals 40, 43. */
+uint64_t avr_read_ranges(const uint8_t *ranges, size_t ranges_length, uint8_t *map, size_t map_length);
+
+/* The map as a picture in the portable bitmap format (P4), 256 by 256, a word a pixel, word 0 top left, visited words black: 8,203
+ * bytes. Refusals 40, 3. */
+uint64_t avr_write_picture(const uint8_t *map, size_t map_length, uint8_t *out, size_t out_length);
 
 #ifdef __cplusplus
 }
