@@ -10,12 +10,17 @@
  *   2  bytes are missing                              value: bytes needed, 2 or 4
  *   3  the buffer is too short                        value: bytes needed
  *   5  the image is longer than 8,388,608 bytes
+ *   6  a line of offsets is not six upper-case hexadecimal digits
  *   7  a HEX line has bad form                        value: the line's number, from 1
  *   8  its bytes do not add up to 0                   value: the line's number
  *   9  its type is neither 00 nor 01                  value: the line's number
  *  10  it begins before the end of the last one       value: the line's number
  *  11  it goes beyond 65,536 or the lent image        value: the line's number
  *  12  there is no end line
+ *  40  a map does not have 8,192 bytes
+ *  41  an odd offset
+ *  42  an offset past 131,071
+ *  43  a bad list of ranges
  */
 #ifndef PIRUKAMES_H
 #define PIRUKAMES_H
@@ -48,6 +53,32 @@ uint64_t avr_frame(const uint8_t *line, size_t line_length, uint8_t *out, size_t
  * behind it are kept. Refusals 7 to 12: the first faulty line decides, on one line the lowest number, and 12 only where no line is
  * faulty. A line's number is at most 65,538. */
 uint64_t avr_read_hex(const uint8_t *text, size_t text_length, uint8_t *image, size_t image_length);
+
+/* ---- Coverage maps: 8,192 bytes, program word w in bit w mod 8 of byte w div 8. A refused call changes no bit; refusal 40 comes first. */
+
+/* Visits the word of a line, 6 digits without LF: its offset in 3 bytes, high byte first. 0. Refusals 40, 6, 41, 42. */
+uint64_t avr_visit(const uint8_t *line, size_t line_length, uint8_t *map, size_t map_length);
+
+/* Visits each line of a text as avr_visit does and drops those that it refuses: how many were dropped. Lines end in LF; a last one without
+ * it counts if not empty. Refusal 40. A text of less than 2^32 bytes at a time: a larger count would read as a refusal. */
+uint64_t avr_visit_all(const uint8_t *text, size_t text_length, uint8_t *map, size_t map_length);
+
+/* How many words are visited. Refusal 40. */
+uint64_t avr_visited(const uint8_t *map, size_t map_length);
+
+/* Adds the words of another map. 0. Refusal 40. */
+uint64_t avr_join_maps(const uint8_t *other, size_t other_length, uint8_t *map, size_t map_length);
+
+/* The map as rising ranges that don't touch, 4 bytes each: first word, last word, low byte first. Refusals 40, 3. 131,072 bytes of room
+ * are always enough, and make it write in one pass. */
+uint64_t avr_write_ranges(const uint8_t *map, size_t map_length, uint8_t *out, size_t out_length);
+
+/* Makes the map the words of such ranges and no others: how many ranges. Refusals 40, 43. */
+uint64_t avr_read_ranges(const uint8_t *ranges, size_t ranges_length, uint8_t *map, size_t map_length);
+
+/* The map as a picture in the portable bitmap format (P4), 256 by 256, a word a pixel, word 0 top left, visited words black: 8,203
+ * bytes. Refusals 40, 3. */
+uint64_t avr_write_picture(const uint8_t *map, size_t map_length, uint8_t *out, size_t out_length);
 
 #ifdef __cplusplus
 }
