@@ -9,7 +9,7 @@
  *   1  no row for the target fits the first word      value: the word
  *   2  bytes are missing                              value: bytes needed, 2 or 4
  *   3  the buffer is too short                        value: bytes needed
- *   5  the image is longer than 8,388,608 bytes
+ *   5  the image is longer than 8,388,608 bytes, or than 65,536 where it is written as HEX
  *   6  a line of offsets is not six upper-case hexadecimal digits
  *   7  a HEX line has bad form                        value: the line's number, from 1
  *   8  its bytes do not add up to 0                   value: the line's number
@@ -53,6 +53,10 @@ uint64_t avr_frame(const uint8_t *line, size_t line_length, uint8_t *out, size_t
  * behind it are kept. Refusals 7 to 12: the first faulty line decides, on one line the lowest number, and 12 only where no line is
  * faulty. A line's number is at most 65,538. */
 uint64_t avr_read_hex(const uint8_t *text, size_t text_length, uint8_t *image, size_t image_length);
+
+/* The text of an image in Intel HEX: lines of 16 bytes, addresses from 0, each line ended by LF, and the end line. Refusals 5, above
+ * 65,536 bytes, then 3. For n bytes the room is 12 * ((n + 15) / 16) + 2 * n + 12. avr_read_hex gives the same image again. */
+uint64_t avr_write_hex(const uint8_t *image, size_t image_length, uint8_t *out, size_t out_length);
 
 /* ---- Coverage maps: 8,192 bytes, program word w in bit w mod 8 of byte w div 8. A refused call changes no bit; refusal 40 comes first. */
 
