@@ -2,4 +2,6 @@ pub mod Along
 pub mod At
 pub mod Theorems
 pub mod Placed
+pub mod Join
+pub mod JoinCase
 pub mod Unique
