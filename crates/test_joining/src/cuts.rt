@@ -1,9 +1,9 @@
 // An image cut in two: listed whole, each part alone, and one part after the other.
+use crate::show::print;
+use crate::show::print_number;
+use crate::show::show;
 use avr::Target;
 use listing::PartListed;
-use show::print;
-use show::print_number;
-use show::show;
 
 // Instructions of two bytes and of four, words that no row fits for one target or for both, and at its end a call that is cut.
 const IMAGE: [u8; 64] = [
@@ -90,35 +90,34 @@ pub(crate) fn part_text(part: &[u8], base: usize, more: bool, flag: bool, out: &
     }
 }
 
-// The first `cut` bytes, where more follows or as if nothing did, and then what is left from the first byte on that was not listed.
+// The first n bytes, all where there are fewer.
+pub(crate) fn first<'a>(s: &'a [u8], n: usize) -> &'a [u8] {
+    if n < s.len() { &s[..n] } else { &s[0..] }
+}
+
+// The first `cut` bytes, where more may follow or as if nothing did, and then what is left from the first byte on that was not listed.
 fn in_two(image: &[u8], cut: usize, more: bool, flag: bool, out: &mut [u8]) -> usize {
-    if image.len() < cut {
-        return 0;
-    }
-    let first = part_text(&image[..cut], 0, more, flag, &mut *out);
-    let n = first.text;
-    let at = first.bytes;
+    let listed = part_text(first(image, cut), 0, more, flag, &mut *out);
+    let n = listed.text;
+    let at = listed.bytes;
     if out.len() < n {
         return 0;
     }
     if image.len() < at {
         return 0;
     }
-    let second = part_text(&image[at..], at, false, flag, &mut out[n..]);
-    if out.len() - n < second.text {
+    let rest = part_text(&image[at..], at, false, flag, &mut out[n..]);
+    if out.len() - n < rest.text {
         return 0;
     }
-    n + second.text
+    n + rest.text
 }
 
 // Whether the listing in two parts is the text.
 fn agrees(image: &[u8], cut: usize, more: bool, flag: bool, text: &[u8]) -> bool {
     let mut apart = [0u8; 1152];
     let n = in_two(image, cut, more, flag, &mut apart);
-    if apart.len() < n {
-        return false;
-    }
-    cut::equal(&apart[..n], text)
+    cut::equal(first(&apart, n), text)
 }
 
 fn print_cut(cut: usize, alone: bool, by_parts: bool) {
@@ -132,20 +131,24 @@ fn print_cut(cut: usize, alone: bool, by_parts: bool) {
 }
 
 // The places of an image where its two parts alone don't list as the whole.
-fn show_cuts(image: &[u8], flag: bool) {
-    let mut whole = [0u8; 1152];
-    let listed = part_text(image, 0, false, flag, &mut whole);
-    let n = listed.text;
-    if whole.len() < n {
-        return;
-    }
+fn show_cuts(image: &[u8], whole: &[u8], flag: bool) {
     let mut cut: usize = 0;
-    while cut <= image.len() {
-        let alone = agrees(image, cut, false, flag, &whole[..n]);
-        let by_parts = agrees(image, cut, true, flag, &whole[..n]);
+    while cut < image.len() {
+        let alone = agrees(image, cut, false, flag, whole);
+        let by_parts = agrees(image, cut, true, flag, whole);
         print_cut(cut, alone, by_parts);
         cut += 1;
     }
+}
+
+fn show_length(image: &[u8], flag: bool) {
+    let mut whole = [0u8; 1152];
+    let listed = part_text(image, 0, false, flag, &mut whole);
+    print(b"length ");
+    print_number(image.len());
+    print(b":");
+    show_cuts(image, first(&whole, listed.text), flag);
+    print(b"\n");
 }
 
 pub(crate) fn show_all(flag: bool) {
@@ -164,13 +167,10 @@ pub(crate) fn show_all(flag: bool) {
             flag,
         );
     }
-    print(b"apart differs from joined at\n");
+    print(b"apart and joined differ at\n");
     let mut n: usize = 1;
     while n <= 64 {
-        print_number(n);
-        print(b" bytes:");
-        show_cuts(&IMAGE[..n], flag);
-        print(b"\n");
+        show_length(first(&IMAGE, n), flag);
         n += 1;
     }
 }

@@ -1,5 +1,6 @@
 // Texts printed, and the two images of document 02's condition.
-use cuts::part_text;
+use crate::cuts::first;
+use crate::cuts::part_text;
 use libc::STDOUT_FILENO;
 
 pub(crate) fn print(s: &[u8]) {
@@ -14,11 +15,8 @@ pub(crate) fn print_number(n: usize) {
 pub(crate) fn show(title: &[u8], part: &[u8], base: usize, flag: bool) {
     let mut text = [0u8; 1152];
     let listed = part_text(part, base, false, flag, &mut text);
-    let n = listed.text;
     print(title);
-    if n <= text.len() {
-        print(&text[..n]);
-    }
+    print(first(&text, listed.text));
 }
 
 // 0E 94 has a .byte line alone, and so the listings of the two don't make that of the whole.
