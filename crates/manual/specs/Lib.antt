@@ -15,6 +15,7 @@ pub mod Writing
 pub mod Lines
 pub mod Listing
 pub mod Lists
+pub mod Archive
 pub mod Spelt
 pub mod Frames
 pub mod Reverse
