@@ -1,0 +1,192 @@
+-- A turn of the checking pass: what some lines are read to, listed again, says of the whole text what it says of the rest.
+use mathlib.Core.Path.{_≡_, refl, sym, ap, ap₂, subst, _∙_}
+use mathlib.Core.Bool.{Bool, true, false, true≢false}
+use mathlib.Core.List.{List, [], _∷_, _++_, append-assoc}
+use Prim.Native.Nat.{ℕ, zero, suc, _+_, _≤_, _<_}
+use native.Mathlib.Nat.{zero-add}
+use native.Mathlib.Omega.{arith}
+use lib.Dec.{ltb, leb}
+use lib.ListN.{length, take, drop, length-append, length-drop, take-append-drop, drop-of-length-le}
+use lib.Seq.{length-take-le, take-append-seam, drop-append-seam}
+use borrow.Author.Tests.{ltb-true, ltb-false, lt-ltb, le-ltb, leb-true, le-leb}
+use Rattle.avr.specs.declared.Line.{Line}
+use Rattle.manual.specs.Choice.{pick, both}
+use Rattle.manual.specs.Lines.{limit, lengthOf, isByte, linesFrom}
+use Rattle.manual.specs.Listing.{listingLine, placed, printed}
+use Rattle.manual.specs.Archive.{endLine}
+use Rattle.cut.specs.Cut.{same}
+use Rattle.cut.proofs.Same.{same-eq, same-refl}
+use Rattle.encode.specs.Demand.{Bytes}
+use Rattle.encode.proofs.Truth.{both-true}
+use Rattle.walk.specs.Theorems.{total}
+use Rattle.walk.specs.Joining.{wholes}
+use Rattle.walk.proofs.Join.{wholes-stand}
+use Rattle.walk.proofs.Alone.{wholes-alone}
+use Rattle.listing.specs.Parts.{partLines, partText}
+use Rattle.listing.proofs.Steps.{text-append}
+use Rattle.listing.proofs.Parts.{wholes-within}
+use Rattle.listing.proofs.PartByPart.{goes-on, gets-on}
+use Rattle.archive.specs.declared.Turn.{Turn}
+use Rattle.archive.specs.declared.Turn.the-variants as turn
+use Rattle.archive.specs.Guess.{isEnd, guessed, leftBy}
+use Rattle.archive.specs.Turns.{leftText, Reads, None, Reaches, Stands, beginsWith, goesOn, TurnIs}
+use Rattle.archive.proofs.Back.{Split, bytes-drop, split, all-read}
+use Rattle.archive.proofs.Small.{bytes-both, guessed-few}
+use Rattle.archive.proofs.LineBack.{bytes-take}
+
+-- ---- the answer, case by case
+
+module _ (flag : Bool) (o : ℕ) (part t : List ℕ) where
+  abbrev s : List ℕ
+  s = partText flag true o part
+
+  pub goes-nothing : {n : ℕ} → n ≡ 0 + length s → n ≡ 0 → turn.Not ≡ goesOn flag o part t
+  unfolding goesOn
+  goes-nothing e z = rw (le-ltb 0 (length s) (omega arith))
+
+  pub goes-next : {n k : ℕ} → n ≡ 0 + length s → k ≡ total (partLines flag true part) → (n ≡ 0 → ⊥) → beginsWith s t ≡ true → turn.Next n k ≡ goesOn flag o part t
+  unfolding goesOn
+  goes-next {n} e f z b =
+      let p : 0 < length s = some (length s) (λ q. z (e ∙ zero-add (length s) ∙ q)) in
+      rw (lt-ltb 0 (length s) p, b) (ap₂ turn.Next (e ∙ zero-add (length s)) f)
+    where
+      some : (m : ℕ) → (m ≡ 0 → ⊥) → 0 < m
+      some zero h = absurd (h refl)
+      some (suc m) h = omega arith
+
+  pub goes-not : beginsWith s t ≡ false → turn.Not ≡ goesOn flag o part t
+  unfolding goesOn
+  goes-not b = rw b (go (ltb 0 (length s)))
+    where
+      go : (a : Bool) → turn.Not ≡ pick (both a false) (turn.Next (length s) (total (partLines flag true part))) turn.Not
+      go true = refl
+      go false = refl
+
+-- ---- lines alone
+
+wholes-twice : (ls : List Line) → wholes (wholes ls) ≡ wholes ls
+wholes-twice [] = refl
+wholes-twice (l ∷ ls) = go (isByte l) refl
+  where
+    go : (b : Bool) → isByte l ≡ b → wholes (pick b [] (l ∷ wholes ls)) ≡ pick b [] (l ∷ wholes ls)
+    go true e = refl
+    go false e = rw e (ap (λ (ms : List Line). l ∷ ms) (wholes-twice ls))
+
+-- behind the listed bytes of a part, any others may follow
+lines-then : (flag : Bool) (part rest : List ℕ)
+    → linesFrom flag false (take (total (partLines flag true part)) part ++ rest) ≡ partLines flag true part ++ linesFrom flag false rest
+unfolding partLines
+lines-then flag part rest =
+    let ls = partLines flag true part in
+    let a : wholes (linesFrom flag false (take (total ls) part)) ≡ ls = ap wholes (wholes-alone flag part) ∙ wholes-twice (linesFrom flag false part) in
+    let z : drop (total ls) (take (total ls) part) ≡ [] = drop-of-length-le (take (total ls) part) {i = total ls} (omega (arith, length-take-le (total ls) part (wholes-within flag part))) in
+    wholes-stand flag rest (take (total ls) part) ∙ rw (a, z)
+
+-- ---- a turn
+
+module _ (flag : Bool) (n o : ℕ) (t : List ℕ) where
+  abbrev read : List ℕ
+  read = guessed flag n t
+
+  splits : (bs : List ℕ) → Reads flag o bs t → Split flag n o bs read (leftBy n t)
+  splits bs r = subst (λ (u : List ℕ). Split flag n o bs (guessed flag n u) (leftBy n u)) (r .text) (split flag n false o bs (r .bytes) (r .room))
+
+  within : (bs : List ℕ) → Reads flag o bs t → length read ≤ length bs
+  within bs r = let p = splits bs r in omega (arith, ap length (p .bytes), length-append read (p .more))
+
+  pub too-many : limit < o + length read → None flag o t
+  too-many h bs r = omega (arith, within bs r, r .room)
+
+  -- the last lines
+  module _ (e : isEnd (leftBy n t) ≡ true) where
+    pub last-yes : o + length read ≤ limit → same (leftText flag false o read) t ≡ true → Reaches flag o t (o + length read)
+    last-yes h q = (read, (record { bytes = guessed-few flag n t .0; room = h; text = same-eq (leftText flag false o read) t q }, refl))
+
+    pub last-no : same (leftText flag false o read) t ≡ false → None flag o t
+    last-no q bs r =
+        let b = all-read flag n o bs read (leftBy n t) (splits bs r) e in
+        true≢false (sym (same-refl t) ∙ ap (λ (u : List ℕ). same u t) (sym (r .text) ∙ ap (leftText flag false o) (sym b)) ∙ q)
+
+  -- more follow
+  module _ (e : isEnd (leftBy n t) ≡ false) (four : 4 ≤ n) (room : o + length read ≤ limit) where
+    abbrev ls : List Line
+    ls = partLines flag true read
+
+    abbrev s : List ℕ
+    s = partText flag true o read
+
+    abbrev k : ℕ
+    k = total ls
+
+    begun : (bs : List ℕ) → Reads flag o bs t → t ≡ s ++ leftText flag false (o + k) (drop k bs)
+    begun bs r =
+        let p = splits bs r in
+        let d = length-drop k bs in
+        let w = wholes-within flag read in
+        let m = within bs r in
+        let f : o + length bs ≡ o + k + length (drop k bs) = omega arith in
+        sym (r .text)
+        ∙ ap (λ (x : List ℕ). x ++ endLine (o + length bs)) (rw (p .bytes) at sym (goes-on flag o read (p .more)))
+        ∙ append-assoc s (printed (placed (o + k) (linesFrom flag false (drop k bs)))) (endLine (o + length bs))
+        ∙ rw f
+
+    behind : (bs : List ℕ) → Reads flag o bs t → Reads flag (o + k) (drop k bs) (drop (length s) t)
+    behind bs r =
+        let d = length-drop k bs in
+        let w = wholes-within flag read in
+        record {
+          bytes = bytes-drop k bs (r .bytes);
+          room = omega (arith, r .room, within bs r);
+          text = sym (ap (drop (length s)) (begun bs r) ∙ drop-append-seam s (leftText flag false (o + k) (drop k bs)));
+        }
+
+    in-front : take (length s) t ≡ s → (rest : List ℕ) → Reads flag (o + k) rest (drop (length s) t) → Reaches flag o t (o + k + length rest)
+    in-front b rest r =
+        let c = take k read in
+        let w = length-take-le k read (wholes-within flag read) in
+        let a = length-append c rest in
+        let f : o + length (c ++ rest) ≡ o + k + length rest = omega arith in
+        (
+          c ++ rest,
+          (
+            record {
+              bytes = bytes-both c rest (bytes-take k read (guessed-few flag n t .0)) (r .bytes);
+              room = omega (arith, r .room);
+              text =
+                  ap₂ (λ (x : List Line) (m : ℕ). printed (placed o x) ++ endLine m) (lines-then flag read rest) f
+                  ∙ ap (λ (x : List ℕ). x ++ endLine (o + k + length rest)) (sym (text-append o ls (linesFrom flag false rest) k refl))
+                  ∙ append-assoc s (printed (placed (o + k) (linesFrom flag false rest))) (endLine (o + k + length rest))
+                  ∙ ap₂ (λ (x y : List ℕ). x ++ y) (sym b) (r .text)
+                  ∙ take-append-drop (length s) t;
+            },
+            sym f,
+          ),
+        )
+
+    none-printed : (p : ℕ) (ms : List Line) → length (printed (placed p ms)) ≡ 0 → total ms ≡ 0
+    none-printed p [] z = refl
+    none-printed p (m ∷ ms) z = absurd (omega (arith, length-append (listingLine p m) (10 ∷ printed (placed (p + lengthOf m) ms))))
+
+    -- a text that does not go on with these lines is no bytes'
+    goes-on-or-not : (a b : Bool) → ltb 0 (length s) ≡ a → beginsWith s t ≡ b → TurnIs flag o t (pick (both a b) (turn.Next (length s) k) turn.Not)
+    unfolding beginsWith
+    goes-on-or-not true true p q =
+        let h = both-true (leb (length s) (length t)) (same (take (length s) t) s) q in
+        let w = wholes-within flag read in
+        (
+          ltb-true 0 (length s) p,
+          leb-true (length s) (length t) (h .0),
+          omega arith,
+          record { back = in-front (same-eq (take (length s) t) s (h .1)); forth = λ bs r. (drop k bs, behind bs r) },
+        )
+    goes-on-or-not true false p q bs r =
+        let b = begun bs r in
+        let x = leftText flag false (o + k) (drop k bs) in
+        let f : take (length s) t ≡ s = ap (take (length s)) b ∙ take-append-seam s x in
+        true≢false (sym (rw (le-leb (length s) (length t) (omega (arith, ap length b, length-append s x)), f) (same-refl s)) ∙ q)
+    goes-on-or-not false b p q bs r =
+        omega (arith, gets-on flag read, splits bs r .many e, none-printed o ls (omega (arith, ltb-false 0 (length s) p)))
+
+    pub turn-is : TurnIs flag o t (goesOn flag o read t)
+    unfolding goesOn
+    turn-is = goes-on-or-not (ltb 0 (length s)) (beginsWith s t) refl refl
