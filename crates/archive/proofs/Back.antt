@@ -24,6 +24,7 @@ use Rattle.archive.specs.Guess.{mark, lineBytes, pieceOf, isEnd, guessed
 use Rattle.archive.specs.Turns.{leftText}
 use Rattle.archive.proofs.Marks.{lineThere, leftBehind, first-line, rest-lines, mark-left, text-of-line, ends-none, ends-some}
 use Rattle.archive.proofs.LineBack.{line-back}
+use Rattle.archive.proofs.Lines.{past-shorter}
 
 pub bytes-drop : (n : ℕ) (bs : List ℕ) → Bytes bs → Bytes (drop n bs)
 bytes-drop n bs h k = rw (getD-drop n bs k 0) (h (n + k))
@@ -108,22 +109,6 @@ module _ (flag : Bool) where
 
 -- ---- all lines
 
-past-shorter : (c : ℕ) (t : List ℕ) → 0 < length t → length (past c t) < length t
-past-shorter c [] h = absurd (omega arith)
-past-shorter c (x ∷ xs) h = go (eqb x c) (past-short xs)
-  where
-    past-short : (ys : List ℕ) → length (past c ys) ≤ length ys
-    past-short [] = omega arith
-    past-short (y ∷ ys) = pass (eqb y c) (past-short ys)
-      where
-        pass : (q : Bool) → length (past c ys) ≤ length ys → length (pick q ys (past c ys)) ≤ suc (length ys)
-        pass true k = omega arith
-        pass false k = omega arith
-
-    go : (q : Bool) → length (past c xs) ≤ length xs → length (pick q xs (past c xs)) < suc (length xs)
-    go true k = omega arith
-    go false k = omega arith
-
 nothing-ends : isEnd [] ≡ true
 unfolding isEnd
 nothing-ends = refl
@@ -144,7 +129,7 @@ runs-out (suc n) t h = go (isEnd t) refl (runs-out n (past 10 t))
     go false e r = r (omega (arith, past-shorter 10 t (not-nothing t e)))
 
 module _ (flag : Bool) where
-  archived-is : (image : List ℕ) → length image ≤ limit → archived flag image ≡ leftText flag false 0 image
+  pub archived-is : (image : List ℕ) → length image ≤ limit → archived flag image ≡ leftText flag false 0 image
   unfolding archived listing
   archived-is image h = rw (lines-within flag image h, zero-add (length image))
 

@@ -1,8 +1,10 @@
 pub mod Plain
 pub mod Marks
 pub mod LineBack
+pub mod Lines
 pub mod Back
 pub mod Small
-pub mod Lines
 pub mod Cases
 pub mod Turns
+pub mod Passes
+pub mod Unique

@@ -30,6 +30,22 @@ up-short c (x ∷ xs) = go (eqb x c) (up-short c xs)
     go true h = omega arith
     go false h = omega arith
 
+pub past-short : (c : ℕ) (s : List ℕ) → length (past c s) ≤ length s
+past-short c [] = omega arith
+past-short c (x ∷ xs) = go (eqb x c) (past-short c xs)
+  where
+    go : (b : Bool) → length (past c xs) ≤ length xs → length (pick b xs (past c xs)) ≤ suc (length xs)
+    go true h = omega arith
+    go false h = omega arith
+
+pub past-shorter : (c : ℕ) (s : List ℕ) → 0 < length s → length (past c s) < length s
+past-shorter c [] h = absurd (omega arith)
+past-shorter c (x ∷ xs) h = go (eqb x c)
+  where
+    go : (b : Bool) → length (pick b xs (past c xs)) < suc (length xs)
+    go true = omega arith
+    go false = omega (arith, past-short c xs)
+
 past-left : (c : ℕ) (s : List ℕ) → drop (length s - length (past c s)) s ≡ past c s
 past-left c s = go (ltb (length (upTo c s)) (length s)) refl
   where

@@ -37,28 +37,28 @@ use Rattle.archive.proofs.LineBack.{bytes-take}
 -- ---- the answer, case by case
 
 module _ (flag : Bool) (o : ℕ) (part t : List ℕ) where
-  abbrev s : List ℕ
-  s = partText flag true o part
+  abbrev front : List ℕ
+  front = partText flag true o part
 
-  pub goes-nothing : {n : ℕ} → n ≡ 0 + length s → n ≡ 0 → turn.Not ≡ goesOn flag o part t
+  pub goes-nothing : {n : ℕ} → n ≡ 0 + length front → n ≡ 0 → turn.Not ≡ goesOn flag o part t
   unfolding goesOn
-  goes-nothing e z = rw (le-ltb 0 (length s) (omega arith))
+  goes-nothing e z = rw (le-ltb 0 (length front) (omega arith))
 
-  pub goes-next : {n k : ℕ} → n ≡ 0 + length s → k ≡ total (partLines flag true part) → (n ≡ 0 → ⊥) → beginsWith s t ≡ true → turn.Next n k ≡ goesOn flag o part t
+  pub goes-next : {n k : ℕ} → n ≡ 0 + length front → k ≡ total (partLines flag true part) → (n ≡ 0 → ⊥) → beginsWith front t ≡ true → turn.Next n k ≡ goesOn flag o part t
   unfolding goesOn
   goes-next {n} e f z b =
-      let p : 0 < length s = some (length s) (λ q. z (e ∙ zero-add (length s) ∙ q)) in
-      rw (lt-ltb 0 (length s) p, b) (ap₂ turn.Next (e ∙ zero-add (length s)) f)
+      let p : 0 < length front = some (length front) (λ q. z (e ∙ zero-add (length front) ∙ q)) in
+      rw (lt-ltb 0 (length front) p, b) (ap₂ turn.Next (e ∙ zero-add (length front)) f)
     where
       some : (m : ℕ) → (m ≡ 0 → ⊥) → 0 < m
       some zero h = absurd (h refl)
       some (suc m) h = omega arith
 
-  pub goes-not : beginsWith s t ≡ false → turn.Not ≡ goesOn flag o part t
+  pub goes-not : beginsWith front t ≡ false → turn.Not ≡ goesOn flag o part t
   unfolding goesOn
-  goes-not b = rw b (go (ltb 0 (length s)))
+  goes-not b = rw b (go (ltb 0 (length front)))
     where
-      go : (a : Bool) → turn.Not ≡ pick (both a false) (turn.Next (length s) (total (partLines flag true part))) turn.Not
+      go : (a : Bool) → turn.Not ≡ pick (both a false) (turn.Next (length front) (total (partLines flag true part))) turn.Not
       go true = refl
       go false = refl
 
@@ -66,11 +66,11 @@ module _ (flag : Bool) (o : ℕ) (part t : List ℕ) where
 
 wholes-twice : (ls : List Line) → wholes (wholes ls) ≡ wholes ls
 wholes-twice [] = refl
-wholes-twice (l ∷ ls) = go (isByte l) refl
+wholes-twice (l ∷ ls) = go (isByte l) refl (wholes-twice ls)
   where
-    go : (b : Bool) → isByte l ≡ b → wholes (pick b [] (l ∷ wholes ls)) ≡ pick b [] (l ∷ wholes ls)
-    go true e = refl
-    go false e = rw e (ap (λ (ms : List Line). l ∷ ms) (wholes-twice ls))
+    go : (b : Bool) → isByte l ≡ b → wholes (wholes ls) ≡ wholes ls → wholes (pick b [] (l ∷ wholes ls)) ≡ pick b [] (l ∷ wholes ls)
+    go true e r = refl
+    go false e r = rw e (ap (λ (ms : List Line). l ∷ ms) r)
 
 -- behind the listed bytes of a part, any others may follow
 lines-then : (flag : Bool) (part rest : List ℕ)
@@ -125,8 +125,9 @@ module _ (flag : Bool) (n o : ℕ) (t : List ℕ) where
         let w = wholes-within flag read in
         let m = within bs r in
         let f : o + length bs ≡ o + k + length (drop k bs) = omega arith in
+        let g = subst (λ (x : List ℕ). s ++ printed (placed (o + k) (linesFrom flag false (drop k x))) ≡ printed (placed o (linesFrom flag false x))) (p .bytes) (goes-on flag o read (p .more)) in
         sym (r .text)
-        ∙ ap (λ (x : List ℕ). x ++ endLine (o + length bs)) (rw (p .bytes) at sym (goes-on flag o read (p .more)))
+        ∙ ap (λ (x : List ℕ). x ++ endLine (o + length bs)) (sym g)
         ∙ append-assoc s (printed (placed (o + k) (linesFrom flag false (drop k bs)))) (endLine (o + length bs))
         ∙ rw f
 
@@ -145,8 +146,7 @@ module _ (flag : Bool) (n o : ℕ) (t : List ℕ) where
         let c = take k read in
         let w = length-take-le k read (wholes-within flag read) in
         let a = length-append c rest in
-        let f : o + length (c ++ rest) ≡ o + k + length rest = omega arith in
-        (
+        let f : o + length (c ++ rest) ≡ o + k + length rest = omega arith in (
           c ++ rest,
           (
             record {
@@ -172,19 +172,20 @@ module _ (flag : Bool) (n o : ℕ) (t : List ℕ) where
     unfolding beginsWith
     goes-on-or-not true true p q =
         let h = both-true (leb (length s) (length t)) (same (take (length s) t) s) q in
-        let w = wholes-within flag read in
-        (
+        let w = wholes-within flag read in (
           ltb-true 0 (length s) p,
           leb-true (length s) (length t) (h .0),
           omega arith,
           record { back = in-front (same-eq (take (length s) t) s (h .1)); forth = λ bs r. (drop k bs, behind bs r) },
         )
-    goes-on-or-not true false p q bs r =
+    goes-on-or-not true false p q = λ bs r.
         let b = begun bs r in
         let x = leftText flag false (o + k) (drop k bs) in
         let f : take (length s) t ≡ s = ap (take (length s)) b ∙ take-append-seam s x in
-        true≢false (sym (rw (le-leb (length s) (length t) (omega (arith, ap length b, length-append s x)), f) (same-refl s)) ∙ q)
-    goes-on-or-not false b p q bs r =
+        let g : both (leb (length s) (length t)) (same (take (length s) t) s) ≡ true =
+        rw (le-leb (length s) (length t) (omega (arith, ap length b, length-append s x)), f) (same-refl s) in
+        true≢false (sym g ∙ q)
+    goes-on-or-not false b p q = λ bs r.
         omega (arith, gets-on flag read, splits bs r .many e, none-printed o ls (omega (arith, ltb-false 0 (length s) p)))
 
     pub turn-is : TurnIs flag o t (goesOn flag o read t)

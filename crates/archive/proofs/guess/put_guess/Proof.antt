@@ -7,13 +7,13 @@ use denote.Ref.{now}
 use native.Mathlib.Omega.{arith}
 use native.Mathlib.Nat.{zero-add}
 use borrow.Author.Needs.{needs}
-use lib.ListN.{length, take, drop}
+use lib.ListN.{length, take, drop, length-drop}
 use Rattle.cut.specs.Cut.{past}
 use Rattle.cut.proofs.Parts.{rest-all}
 use Rattle.put.specs.Put.{Put}
 use Rattle.put.proofs.Puts.{nothing, then, length-kept}
 use Rattle.archive.specs.Guess.{pieceOf, isEnd, guessed}
-use Rattle.archive.proofs.Lines.{ReadTo, read-first, read-end, read-room, read-next, read-all}
+use Rattle.archive.proofs.Lines.{past-short, ReadTo, read-first, read-end, read-room, read-next, read-all}
 use Rattle.archive.proofs.guess.put_guess.Statement.{statement}
 use Rattle.archive.proofs.guess.put_guess.Tie as tie
 
@@ -39,7 +39,7 @@ returns c =
     let i = l .loop .inv .3 in
     let d = ap isEnd (sym (rest-all (l .loop .p) t)) ∙ sym (e .is-end .ensures) ∙ c .if1 .taken in
     let r = read-end (s .args .target .«has_16_bit_lds_sts») (s .args .n) t (l .loop .i) (l .loop .p) (i .0) (omega arith) (i .1 .1) d in
-    (subst (λ (W : List ℕ). Put (now (s .args .out)) 0 W (now (l .loop .out)) (l .loop .at)) (r .0) (i .1 .0), r .1)
+    (subst (λ (W : List ℕ). Put (now (s .args .out)) 0 W (l .loop .out) (l .loop .at)) (r .0) (i .1 .0), r .1)
 
 put-piece-requires : tie.Need-put-piece-requires Inv-loop μ-loop
 put-piece-requires c κs =
@@ -55,6 +55,12 @@ put-piece-requires c κs =
     let r = read-room flag (s .args .n) t (l .loop .i) (l .loop .p) (i .0) (omega arith) (i .1 .1) d _ (p .piece-of .ensures ∙ ap (pieceOf flag) (rest-all (l .loop .p) t)) in
     omega (arith, r, i .1 .0 .next, s .pre, l .loop .inv .2)
 
+sub-p : tie.Need-sub-p Inv-loop μ-loop
+sub-p c =
+    let l = c .before .before .before .before .before .before .before .before .before .before .before .before in
+    let t = now (l .before .before .before .args .t) in
+    omega (arith, ap length (c .behind .ensures ∙ ap (past 10) (rest-all (l .loop .p) t)), past-short 10 (drop (l .loop .p) t), length-drop (l .loop .p) t)
+
 loop-again : tie.Need-loop-again Inv-loop μ-loop
 loop-again c =
     let q = c .before .before .before .before in
@@ -68,8 +74,7 @@ loop-again c =
     let i = l .loop .inv .3 in
     let d = ap isEnd (sym (rest-all (l .loop .p) t)) ∙ sym (e .is-end .ensures) ∙ f .if1 .left in
     let b : length t - length (now (c .behind .result)) ≡ length t - length (past 10 (drop (l .loop .p) t)) =
-    ap (λ (u : List ℕ). length t - length u) (c .behind .ensures ∙ ap (past 10) (rest-all (l .loop .p) t)) in
-    (
+    ap (λ (u : List ℕ). length t - length u) (c .behind .ensures ∙ ap (past 10) (rest-all (l .loop .p) t)) in (
       omega arith,
       omega arith,
       length-kept (q .put-piece .ensures) ∙ l .loop .inv .2,
@@ -89,9 +94,8 @@ returns-2 c =
     let s = l .before .before .before in
     let t = now (s .args .t) in
     let i = l .loop .inv .3 in
-    let r = read-all (s .args .target .«has_16_bit_lds_sts») (s .args .n) t (l .loop .i) (l .loop .p) (i .0) (l .loop .inv .1) (omega arith) (i .1 .1) in
-    (
-      subst (λ (W : List ℕ). Put (now (s .args .out)) 0 W (now (l .loop .out)) (l .loop .at)) (r .0) (i .1 .0),
+    let r = read-all (s .args .target .«has_16_bit_lds_sts») (s .args .n) t (l .loop .i) (l .loop .p) (i .0) (l .loop .inv .1) (omega arith) (i .1 .1) in (
+      subst (λ (W : List ℕ). Put (now (s .args .out)) 0 W (l .loop .out) (l .loop .at)) (r .0) (i .1 .0),
       c .is-end2 .ensures ∙ ap isEnd (rest-all (l .loop .p) t) ∙ r .1,
     )
 
@@ -117,7 +121,7 @@ put-guess-spec =
     (λ c. search needs)
     (λ c. search needs)
     (λ c κs. search needs)
-    (λ c. search needs)
+    sub-p
     (λ c. search needs)
     (λ c. search needs)
     loop-again
