@@ -7,8 +7,10 @@ use native.Mathlib.Nat.{zero-add}
 use native.Mathlib.Omega.{arith}
 use lib.ListN.{length, take, drop, length-append, length-drop, drop-of-length-le}
 use lib.Seq.{drop-drop}
+use lib.Dec.{ltb}
 use borrow.Author.Tests.{lt-ltb, le-ltb}
-use Rattle.manual.specs.Answers.{gives, refuses}
+use Rattle.manual.specs.Choice.{pick}
+use Rattle.manual.specs.Answers.{Answer, gives, refuses}
 use Rattle.manual.specs.Room.{filled}
 use Rattle.manual.specs.Lines.{limit, linesFrom}
 use Rattle.manual.specs.Listing.{placed, printed}
@@ -18,7 +20,7 @@ use Rattle.cut.proofs.Parts.{rest-all}
 use Rattle.listing.proofs.Buffers.{put-whole}
 use Rattle.archive.specs.declared.Turn.{Turn}
 use Rattle.archive.specs.declared.Turn.the-variants as turn
-use Rattle.archive.specs.Archive.{Archived, Lands}
+use Rattle.archive.specs.Archive.{Archived, Restores, lands, Lands}
 use Rattle.archive.specs.Guess.{guessed}
 use Rattle.archive.specs.Turns.{leftText, Reads, None, Reaches, Stands, TurnIs}
 use Rattle.archive.proofs.Back.{archived-is, read-back}
@@ -106,3 +108,15 @@ module _ (flag : Bool) (text : List ℕ) where
           answers = rw (le-ltb (length lent) (length (c .0)) l) (ap gives size);
           holds = put-whole (c .0) lent after k (subst (λ (xs : List ℕ). Put lent 0 xs after k) guess-is p) .1;
         }
+
+-- no more bytes are asked for than an image may have
+pub asks-little : (flag : Bool) (text lent after : List ℕ) (n : ℕ) → Lands flag text lent (refuses 14 (n ∷ [])) after → n ≤ limit
+asks-little flag text lent after n l = go (l .image) (l .right) (l .answers)
+  where
+    given : (x : List ℕ) (b : Bool) → length x ≤ limit → refuses 14 (n ∷ []) ≡ pick b (refuses 14 (length x ∷ [])) (gives (length x)) → n ≤ limit
+    given x true h e = let k : n ≡ length x = cc in omega arith
+    given x false h e = absurd (let z : _≡_ {A = ℕ} 0 1 = cc in omega arith)
+
+    go : (a : Answer (List ℕ)) → Restores flag text a → refuses 14 (n ∷ []) ≡ lands a lent → n ≤ limit
+    go (gives x) r e = given x (ltb (length lent) (length x)) (r .allowed) e
+    go (refuses k vs) r e = absurd (let z : _≡_ {A = ℕ} 14 k = cc in omega (arith, r .0))

@@ -1,88 +1,34 @@
 -- A turn of the checking pass: what some lines are read to, listed again, says of the whole text what it says of the rest.
 use mathlib.Core.Path.{_≡_, refl, sym, ap, ap₂, subst, _∙_}
 use mathlib.Core.Bool.{Bool, true, false, true≢false}
-use mathlib.Core.List.{List, [], _∷_, _++_, append-assoc}
-use Prim.Native.Nat.{ℕ, zero, suc, _+_, _≤_, _<_}
-use native.Mathlib.Nat.{zero-add}
+use mathlib.Core.List.{List, _++_, append-assoc}
+use Prim.Native.Nat.{ℕ, _+_, _≤_, _<_}
 use native.Mathlib.Omega.{arith}
 use lib.Dec.{ltb, leb}
-use lib.ListN.{length, take, drop, length-append, length-drop, take-append-drop, drop-of-length-le}
+use lib.ListN.{length, take, drop, length-append, length-drop, take-append-drop}
 use lib.Seq.{length-take-le, take-append-seam, drop-append-seam}
-use borrow.Author.Tests.{ltb-true, ltb-false, lt-ltb, le-ltb, leb-true, le-leb}
+use borrow.Author.Tests.{ltb-true, ltb-false, leb-true, le-leb}
 use Rattle.avr.specs.declared.Line.{Line}
 use Rattle.manual.specs.Choice.{pick, both}
-use Rattle.manual.specs.Lines.{limit, lengthOf, isByte, linesFrom}
-use Rattle.manual.specs.Listing.{listingLine, placed, printed}
+use Rattle.manual.specs.Lines.{limit, linesFrom}
+use Rattle.manual.specs.Listing.{placed, printed}
 use Rattle.manual.specs.Archive.{endLine}
 use Rattle.cut.specs.Cut.{same}
 use Rattle.cut.proofs.Same.{same-eq, same-refl}
 use Rattle.encode.specs.Demand.{Bytes}
 use Rattle.encode.proofs.Truth.{both-true}
 use Rattle.walk.specs.Theorems.{total}
-use Rattle.walk.specs.Joining.{wholes}
-use Rattle.walk.proofs.Join.{wholes-stand}
-use Rattle.walk.proofs.Alone.{wholes-alone}
 use Rattle.listing.specs.Parts.{partLines, partText}
 use Rattle.listing.proofs.Steps.{text-append}
 use Rattle.listing.proofs.Parts.{wholes-within}
 use Rattle.listing.proofs.PartByPart.{goes-on, gets-on}
-use Rattle.archive.specs.declared.Turn.{Turn}
 use Rattle.archive.specs.declared.Turn.the-variants as turn
 use Rattle.archive.specs.Guess.{isEnd, guessed, leftBy}
 use Rattle.archive.specs.Turns.{leftText, Reads, None, Reaches, Stands, beginsWith, goesOn, TurnIs}
 use Rattle.archive.proofs.Back.{Split, bytes-drop, split, all-read}
 use Rattle.archive.proofs.Small.{bytes-both, guessed-few}
 use Rattle.archive.proofs.LineBack.{bytes-take}
-
--- ---- the answer, case by case
-
-module _ (flag : Bool) (o : ℕ) (part t : List ℕ) where
-  abbrev front : List ℕ
-  front = partText flag true o part
-
-  pub goes-nothing : {n : ℕ} → n ≡ 0 + length front → n ≡ 0 → turn.Not ≡ goesOn flag o part t
-  unfolding goesOn
-  goes-nothing e z = rw (le-ltb 0 (length front) (omega arith))
-
-  pub goes-next : {n k : ℕ} → n ≡ 0 + length front → k ≡ total (partLines flag true part) → (n ≡ 0 → ⊥) → beginsWith front t ≡ true → turn.Next n k ≡ goesOn flag o part t
-  unfolding goesOn
-  goes-next {n} e f z b =
-      let p : 0 < length front = some (length front) (λ q. z (e ∙ zero-add (length front) ∙ q)) in
-      rw (lt-ltb 0 (length front) p, b) (ap₂ turn.Next (e ∙ zero-add (length front)) f)
-    where
-      some : (m : ℕ) → (m ≡ 0 → ⊥) → 0 < m
-      some zero h = absurd (h refl)
-      some (suc m) h = omega arith
-
-  pub goes-not : beginsWith front t ≡ false → turn.Not ≡ goesOn flag o part t
-  unfolding goesOn
-  goes-not b = rw b (go (ltb 0 (length front)))
-    where
-      go : (a : Bool) → turn.Not ≡ pick (both a false) (turn.Next (length front) (total (partLines flag true part))) turn.Not
-      go true = refl
-      go false = refl
-
--- ---- lines alone
-
-wholes-twice : (ls : List Line) → wholes (wholes ls) ≡ wholes ls
-wholes-twice [] = refl
-wholes-twice (l ∷ ls) = go (isByte l) refl (wholes-twice ls)
-  where
-    go : (b : Bool) → isByte l ≡ b → wholes (wholes ls) ≡ wholes ls → wholes (pick b [] (l ∷ wholes ls)) ≡ pick b [] (l ∷ wholes ls)
-    go true e r = refl
-    go false e r = rw e (ap (λ (ms : List Line). l ∷ ms) r)
-
--- behind the listed bytes of a part, any others may follow
-lines-then : (flag : Bool) (part rest : List ℕ)
-    → linesFrom flag false (take (total (partLines flag true part)) part ++ rest) ≡ partLines flag true part ++ linesFrom flag false rest
-unfolding partLines
-lines-then flag part rest =
-    let ls = partLines flag true part in
-    let a : wholes (linesFrom flag false (take (total ls) part)) ≡ ls = ap wholes (wholes-alone flag part) ∙ wholes-twice (linesFrom flag false part) in
-    let z : drop (total ls) (take (total ls) part) ≡ [] = drop-of-length-le (take (total ls) part) {i = total ls} (omega (arith, length-take-le (total ls) part (wholes-within flag part))) in
-    wholes-stand flag rest (take (total ls) part) ∙ rw (a, z)
-
--- ---- a turn
+use Rattle.archive.proofs.Goes.{lines-then, none-printed}
 
 module _ (flag : Bool) (n o : ℕ) (t : List ℕ) where
   abbrev read : List ℕ
@@ -162,10 +108,6 @@ module _ (flag : Bool) (n o : ℕ) (t : List ℕ) where
             sym f,
           ),
         )
-
-    none-printed : (p : ℕ) (ms : List Line) → length (printed (placed p ms)) ≡ 0 → total ms ≡ 0
-    none-printed p [] z = refl
-    none-printed p (m ∷ ms) z = absurd (omega (arith, length-append (listingLine p m) (10 ∷ printed (placed (p + lengthOf m) ms))))
 
     -- a text that does not go on with these lines is no bytes'
     goes-on-or-not : (a b : Bool) → ltb 0 (length s) ≡ a → beginsWith s t ≡ b → TurnIs flag o t (pick (both a b) (turn.Next (length s) k) turn.Not)

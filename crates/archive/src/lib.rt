@@ -24,10 +24,10 @@ pub enum ListingRead {
     NoRoom(usize),
 }
 
-// What the checking pass finds of a text from an offset on: lines, by their text and by their bytes, to go on behind; its end, by the
-// number of bytes in the image; or that it is no image's.
+// What the checking pass finds of a text from an offset on: lines to go on behind, by how many bytes of text and of the image they take;
+// its end, by the number of the image's bytes; or that it is no image's.
 pub(crate) enum Turn {
-    Next { text: usize, bytes: usize },
+    Next(usize, usize),
     End(usize),
     Not,
 }
@@ -71,10 +71,7 @@ fn goes_on(bytes: &[u8], o: usize, t: &[u8], flag: bool) -> Turn
         return Turn::Not;
     }
     if begins(t, &lines[..n]) {
-        return Turn::Next {
-            text: n,
-            bytes: w.length,
-        };
+        return Turn::Next(n, w.length);
     }
     Turn::Not
 }
@@ -109,9 +106,9 @@ fn check(text: &[u8], target: Target) -> Checked
     while p < text.len() {
         let turned = take_turn(&text[p..], o, target);
         match turned {
-            Turn::Next { text, bytes } => {
-                p = p + text;
-                o = o + bytes;
+            Turn::Next(n, k) => {
+                p = p + n;
+                o = o + k;
             }
             Turn::End(n) => {
                 return Checked::At(n);

@@ -9,7 +9,7 @@ use borrow.Author.Needs.{needs}
 use lib.ListN.{length}
 use Rattle.put.proofs.Fit.{at-start, start-length}
 use Rattle.archive.specs.Turns.{beginsWith}
-use Rattle.archive.proofs.Turns.{goes-nothing, goes-next, goes-not}
+use Rattle.archive.proofs.Goes.{goes-nothing, goes-next, goes-not}
 use Rattle.archive.proofs.goes_on.Statement.{statement}
 use Rattle.archive.proofs.goes_on.Tie as tie
 
