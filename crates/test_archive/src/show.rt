@@ -3,8 +3,6 @@ use archive::ListingRead;
 use avr::Listed;
 use avr::Target;
 use libc::STDOUT_FILENO;
-ghost use Prim.Native.Nat.{_≤_};
-ghost use lib.ListN.{length};
 
 pub(crate) fn print(s: &[u8]) {
     io::write_all(STDOUT_FILENO, s);
@@ -47,9 +45,15 @@ pub(crate) fn print_target(flag: bool) {
     }
 }
 
-// How many bytes the archived text of an image of at most 64 bytes has.
-pub(crate) fn archive_image(image: &[u8], flag: bool, out: &mut [u8; 1200]) -> usize {
-    let n = match listing::list(first(image, 64), target_of(flag), &mut *out) {
+// How many bytes the archived text of an image of at most 64 bytes has; 1,200 bytes of room are asked for.
+pub(crate) fn archive_image(image: &[u8], flag: bool, out: &mut [u8]) -> usize {
+    if 64 < image.len() {
+        return 0;
+    }
+    if out.len() < 1200 {
+        return 0;
+    }
+    let n = match listing::list(image, target_of(flag), &mut *out) {
         Listed::Done(m) => m,
         Listed::NoRoom(_) => 0,
         Listed::TooLong => 0,
@@ -57,7 +61,7 @@ pub(crate) fn archive_image(image: &[u8], flag: bool, out: &mut [u8; 1200]) -> u
     if 1152 < n {
         return 0;
     }
-    listing::helper::put_end(&mut *out, n, first(image, 64).len())
+    listing::helper::put_end(&mut *out, n, image.len())
 }
 
 pub(crate) fn print_answer(answer: ListingRead) {
