@@ -110,8 +110,8 @@ module _ (flag : Bool) (text : List ℕ) where
         }
 
 -- no more bytes are asked for than an image may have
-pub asks-little : (flag : Bool) (text lent after : List ℕ) (n : ℕ) → Lands flag text lent (refuses 14 (n ∷ [])) after → n ≤ limit
-asks-little flag text lent after n l = go (l .image) (l .right) (l .answers)
+pub asks-little : (flag : Bool) (text lent after : List ℕ) (n : ℕ) (a : Answer ℕ) → a ≡ refuses 14 (n ∷ []) → Lands flag text lent a after → n ≤ limit
+asks-little flag text lent after n a f l = go (l .image) (l .right) (sym f ∙ l .answers)
   where
     given : (x : List ℕ) (b : Bool) → length x ≤ limit → refuses 14 (n ∷ []) ≡ pick b (refuses 14 (length x ∷ [])) (gives (length x)) → n ≤ limit
     given x true h e = let k : n ≡ length x = cc in omega arith

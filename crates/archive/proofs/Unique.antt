@@ -26,10 +26,13 @@ injective (listingRead.NoRoom m) (listingRead.Done n) e = cc
 injective (listingRead.NoRoom m) listingRead.NoImage e = cc
 injective (listingRead.NoRoom m) (listingRead.NoRoom n) e = cc
 
-pub read-listing-unique : (flag : Bool) (text lent : List ℕ) (a b : ListingRead) (d₁ d₂ : List ℕ)
-    → Lands flag text lent (ofListingRead a) d₁ → Lands flag text lent (ofListingRead b) d₂ → (a ≡ b) × (d₁ ≡ d₂)
-read-listing-unique flag text lent a b d₁ d₂ p q =
-    let e = one-reading flag text (p .image) (q .image) (p .right) (q .right) in (
-      injective a b (p .answers ∙ ap (λ (x : Answer (List ℕ)). lands x lent) e ∙ sym (q .answers)),
-      p .holds ∙ ap (λ (x : Answer (List ℕ)). landed x lent) e ∙ sym (q .holds),
-    )
+module _ (flag : Bool) (text lent : List ℕ) where
+  pub one-landing : (a b : Answer ℕ) (d₁ d₂ : List ℕ) → Lands flag text lent a d₁ → Lands flag text lent b d₂ → (a ≡ b) × (d₁ ≡ d₂)
+  one-landing a b d₁ d₂ p q =
+      let e = one-reading flag text (p .image) (q .image) (p .right) (q .right) in (
+        p .answers ∙ ap (λ (x : Answer (List ℕ)). lands x lent) e ∙ sym (q .answers),
+        p .holds ∙ ap (λ (x : Answer (List ℕ)). landed x lent) e ∙ sym (q .holds),
+      )
+
+  pub read-listing-unique : (a b : ListingRead) (d₁ d₂ : List ℕ) → Lands flag text lent (ofListingRead a) d₁ → Lands flag text lent (ofListingRead b) d₂ → (a ≡ b) × (d₁ ≡ d₂)
+  read-listing-unique a b d₁ d₂ p q = let k = one-landing (ofListingRead a) (ofListingRead b) d₁ d₂ p q in (injective a b (k .0), k .1)
