@@ -17,6 +17,8 @@
  *  10  it begins before the end of the last one       value: the line's number
  *  11  it goes beyond 65,536 or the lent image        value: the line's number
  *  12  there is no end line
+ *  13  no image of at most 8,388,608 bytes has that listing
+ *  14  the lent image is too short                   value: bytes needed
  *  40  a map does not have 8,192 bytes
  *  41  an odd offset
  *  42  an offset past 131,071
@@ -57,6 +59,10 @@ uint64_t avr_read_hex(const uint8_t *text, size_t text_length, uint8_t *image, s
 /* The text of an image in Intel HEX: lines of 16 bytes, addresses from 0, each line ended by LF, and the end line. Refusals 5, above
  * 65,536 bytes, then 3. For n bytes the room is 12 * ((n + 15) / 16) + 2 * n + 12. avr_read_hex gives the same image again. */
 uint64_t avr_write_hex(const uint8_t *image, size_t image_length, uint8_t *out, size_t out_length);
+
+/* The image that a listing is of: what avr_list writes for it, then a line `end`, a blank and the number of its bytes, each line ended by
+ * LF. No two images have one such text. Refusals 13, then 14. */
+uint64_t avr_read_listing(const uint8_t *text, size_t text_length, uint8_t flag, uint8_t *image, size_t image_length);
 
 /* ---- Coverage maps: 8,192 bytes, program word w in bit w mod 8 of byte w div 8. A refused call changes no bit; refusal 40 comes first. */
 
