@@ -1,5 +1,6 @@
 // The walk over an image: what stands at a state, the step past it, and the count of lines. A state is a position and whether the
-// tail has begun. The reader goes by these; a listing has a loop of its own (`listing::helper`), proved to write the same lines.
+// tail has begun. The reader goes by these, and counts by `pass`; a listing has a loop of its own (`listing::helper`), proved to write
+// the same lines.
 use avr::Begun;
 use avr::Decoded;
 use avr::Line;
@@ -7,7 +8,22 @@ use avr::Place;
 use avr::Target;
 ghost use mathlib.Core.Path.{_≡_};
 ghost use Rattle.manual.specs.Answers.{ofDecoded, ofBegun};
+ghost use Prim.Native.Nat.{_+_, _<_, _^_};
 ghost use Rattle.manual.specs.Lines.{lineOf, lengthOf, tailAfter, begins, lineAt, placeAfter, countBefore};
+ghost use Rattle.walk.specs.Counts.{oneMore, counted, linesIn, passedAt};
+
+// How many lines of each kind were passed. An image has no more than 8,388,608 lines, so these never come to an end.
+pub struct Counts {
+    pub instructions: u32,
+    pub words: u32,
+    pub bytes: u32,
+}
+
+// What a pass answers.
+pub struct Passed {
+    pub place: Place,
+    pub counts: Counts,
+}
 
 // Refusal 5.
 pub fn may_begin(image: &[u8]) -> Begun
@@ -76,17 +92,87 @@ fn tail_after(l: Line, tail: bool) -> bool
     }
 }
 
-// The state behind the line at a state: where the next line begins. At the end it stays.
-pub fn step(image: &[u8], place: Place, target: Target) -> Place
-    ensures { λ r. ⌜ r ≡ placeAfter (target .has_16_bit_lds_sts) (now (image .entry)) (place .at) (place .tail) ⌝ }
+// The state behind a line at a place.
+fn behind(place: Place, line: Line) -> Place
+    requires { ⌜ place .at + lengthOf line < 2 ^ 64 ⌝ }
+    ensures { λ r. ⌜ r ≡ record { at = place .at + lengthOf line; tail = tailAfter line (place .tail) } ⌝ }
 {
-    let line = line_at(image, place, target);
     let n = line_length(line);
     let tail = tail_after(line, place.tail);
     Place {
         at: place.at + n,
         tail,
     }
+}
+
+// The state behind the line at a state: where the next line begins. At the end it stays.
+pub fn step(image: &[u8], place: Place, target: Target) -> Place
+    ensures { λ r. ⌜ r ≡ placeAfter (target .has_16_bit_lds_sts) (now (image .entry)) (place .at) (place .tail) ⌝ }
+{
+    let line = line_at(image, place, target);
+    behind(place, line)
+}
+
+fn with_instruction(c: Counts) -> Counts
+    ensures { λ r. ⌜ r ≡ record { instructions = oneMore (c .instructions); words = c .words; bytes = c .bytes } ⌝ }
+{
+    Counts {
+        instructions: std::num::wrapping_add_u32(c.instructions, 1),
+        words: c.words,
+        bytes: c.bytes,
+    }
+}
+
+fn with_word(c: Counts) -> Counts
+    ensures { λ r. ⌜ r ≡ record { instructions = c .instructions; words = oneMore (c .words); bytes = c .bytes } ⌝ }
+{
+    Counts {
+        instructions: c.instructions,
+        words: std::num::wrapping_add_u32(c.words, 1),
+        bytes: c.bytes,
+    }
+}
+
+fn with_byte(c: Counts) -> Counts
+    ensures { λ r. ⌜ r ≡ record { instructions = c .instructions; words = c .words; bytes = oneMore (c .bytes) } ⌝ }
+{
+    Counts {
+        instructions: c.instructions,
+        words: c.words,
+        bytes: std::num::wrapping_add_u32(c.bytes, 1),
+    }
+}
+
+// The counts with a line more.
+fn count_line(l: Line, c: Counts) -> Counts
+    ensures { λ r. ⌜ r ≡ counted l c ⌝ }
+{
+    match l {
+        Line::Instruction(_) => with_instruction(c),
+        Line::Word(_) => with_word(c),
+        Line::Byte(_) => with_byte(c),
+        Line::End => c,
+    }
+}
+
+// The step past the line at a state, and the counts with it. At the end the walk stays and counts nothing.
+pub fn pass(image: &[u8], place: Place, target: Target, counts: Counts) -> Passed
+    ensures { λ r. ⌜ r ≡ passedAt (target .has_16_bit_lds_sts) (now (image .entry)) place counts ⌝ }
+{
+    let line = line_at(image, place, target);
+    let next = behind(place, line);
+    let more = count_line(line, counts);
+    Passed {
+        place: next,
+        counts: more,
+    }
+}
+
+// How many lines were passed.
+pub fn lines_in(c: Counts) -> usize
+    ensures { λ r. ⌜ r ≡ linesIn c ⌝ }
+{
+    c.instructions as usize + c.words as usize + c.bytes as usize
 }
 
 // How many lines begin before a position, by walking from 0.
