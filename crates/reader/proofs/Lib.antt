@@ -1,4 +1,5 @@
 pub mod Held
 pub mod States
+pub mod Counted
 pub mod Lines
 pub mod Unique
