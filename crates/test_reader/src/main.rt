@@ -45,13 +45,8 @@ fn print_line(l: Line, target: Target) {
     }
 }
 
-// A number below 100.
 fn print_number(n: usize) {
-    if n < 100 {
-        let mut digits = [0u8; 2];
-        let end = put::put_small(&mut digits, 0, n as u8);
-        print_first_of(&digits, end);
-    }
+    io::print_decimal(STDOUT_FILENO, n as u64);
 }
 
 fn print_counts(all: usize, n: Counts) {
