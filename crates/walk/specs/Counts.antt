@@ -3,6 +3,7 @@ use Prim.Native.Nat.{ℕ, _+_, _%_, _^_}
 use mathlib.Core.Bool.{Bool}
 use mathlib.Core.List.{List}
 use Rattle.avr.specs.declared.Line.{Line}
+use Rattle.avr.specs.declared.Line.the-variants as line
 use Rattle.avr.specs.declared.Place.{Place}
 use Rattle.manual.specs.Choice.{pick}
 use Rattle.manual.specs.Lines.{isByte, lineAt, placeAfter}
@@ -13,6 +14,13 @@ use Rattle.walk.specs.declared.Passed.{Passed}
 -- a count goes on from its largest number at 0. No walk comes there: an image has no more lines than bytes
 abbrev pub oneMore : ℕ → ℕ
 oneMore n = (n + 1) % 2 ^ 32
+
+-- kinds by number, for the code
+abbrev pub kindNumber : Line → ℕ
+kindNumber (line.Instruction x) = 0
+kindNumber (line.Word w) = 1
+kindNumber (line.Byte b) = 2
+kindNumber line.End = 3
 
 -- the counts with a line more: one is added to the count of its kind, and end is of none
 abbrev pub counted : Line → Counts → Counts

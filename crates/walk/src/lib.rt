@@ -10,7 +10,8 @@ ghost use mathlib.Core.Path.{_≡_};
 ghost use Rattle.manual.specs.Answers.{ofDecoded, ofBegun};
 ghost use Prim.Native.Nat.{_+_, _<_, _^_};
 ghost use Rattle.manual.specs.Lines.{lineOf, lengthOf, tailAfter, begins, lineAt, placeAfter, countBefore};
-ghost use Rattle.walk.specs.Counts.{oneMore, counted, linesIn, passedAt};
+ghost use Rattle.walk.specs.Counts.{kindNumber, oneMore, counted, linesIn, passedAt};
+ghost use Rattle.manual.specs.Choice.{pick};
 
 // How many lines of each kind were passed. An image has no more than 8,388,608 lines, so these never come to an end.
 pub struct Counts {
@@ -113,45 +114,40 @@ pub fn step(image: &[u8], place: Place, target: Target) -> Place
     behind(place, line)
 }
 
-fn with_instruction(c: Counts) -> Counts
-    ensures { λ r. ⌜ r ≡ record { instructions = oneMore (c .instructions); words = c .words; bytes = c .bytes } ⌝ }
+// The number of a line's kind.
+fn kind(l: Line) -> u8
+    ensures { λ r. ⌜ r ≡ kindNumber l ⌝ }
 {
-    Counts {
-        instructions: std::num::wrapping_add_u32(c.instructions, 1),
-        words: c.words,
-        bytes: c.bytes,
+    match l {
+        Line::Instruction(_) => 0,
+        Line::Word(_) => 1,
+        Line::Byte(_) => 2,
+        Line::End => 3,
     }
 }
 
-fn with_word(c: Counts) -> Counts
-    ensures { λ r. ⌜ r ≡ record { instructions = c .instructions; words = oneMore (c .words); bytes = c .bytes } ⌝ }
+// A count, and one more where a line of its kind is here.
+fn more(here: bool, n: u32) -> u32
+    ensures { λ r. ⌜ r ≡ pick here (oneMore n) n ⌝ }
 {
-    Counts {
-        instructions: c.instructions,
-        words: std::num::wrapping_add_u32(c.words, 1),
-        bytes: c.bytes,
+    if here {
+        return std::num::wrapping_add_u32(n, 1);
     }
-}
-
-fn with_byte(c: Counts) -> Counts
-    ensures { λ r. ⌜ r ≡ record { instructions = c .instructions; words = c .words; bytes = oneMore (c .bytes) } ⌝ }
-{
-    Counts {
-        instructions: c.instructions,
-        words: c.words,
-        bytes: std::num::wrapping_add_u32(c.bytes, 1),
-    }
+    n
 }
 
 // The counts with a line more.
 fn count_line(l: Line, c: Counts) -> Counts
     ensures { λ r. ⌜ r ≡ counted l c ⌝ }
 {
-    match l {
-        Line::Instruction(_) => with_instruction(c),
-        Line::Word(_) => with_word(c),
-        Line::Byte(_) => with_byte(c),
-        Line::End => c,
+    let k = kind(l);
+    let instructions = more(k == 0, c.instructions);
+    let words = more(k == 1, c.words);
+    let bytes = more(k == 2, c.bytes);
+    Counts {
+        instructions,
+        words,
+        bytes,
     }
 }
 
@@ -161,10 +157,10 @@ pub fn pass(image: &[u8], place: Place, target: Target, counts: Counts) -> Passe
 {
     let line = line_at(image, place, target);
     let next = behind(place, line);
-    let more = count_line(line, counts);
+    let with_it = count_line(line, counts);
     Passed {
         place: next,
-        counts: more,
+        counts: with_it,
     }
 }
 
