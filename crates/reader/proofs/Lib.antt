@@ -1,3 +1,4 @@
+pub mod First
 pub mod Held
 pub mod States
 pub mod Counted

@@ -34,7 +34,8 @@ use Rattle.walk.proofs.Counts as N
 use Rattle.walk.proofs.Counts.Laws as N′
 use Rattle.reader.specs.declared.Reader.{Reader}
 use Rattle.reader.specs.State.{noLines}
-use Rattle.reader.proofs.Held.{first, first-fits, none-fits, behindAt, B, behind, at, lent, Own, movedTo, opened, closed, moved}
+use Rattle.reader.proofs.First.{first, first-fits, none-fits}
+use Rattle.reader.proofs.Held.{behindAt, B, behind, at, lent, Own, movedTo, opened, closed, moved}
 use Rattle.reader.proofs.rewind.Key.{name as #reader·rewind}
 use Rattle.reader.proofs.rewind as rewind
 use Rattle.reader.proofs.rewind.Statement as stated

@@ -57,7 +57,7 @@ use Rattle.walk.proofs.may_begin.Met as may-thm
 use Rattle.reader.specs.declared.Reader.{Reader}
 use Rattle.reader.specs.declared.Started.{Started}
 use Rattle.reader.specs.State.{noLines, begin}
-use Rattle.reader.proofs.Held.{first, first-fits, none-fits}
+use Rattle.reader.proofs.First.{first, first-fits, none-fits}
 use Rattle.reader.proofs.Reader as T
 use Rattle.reader.proofs.Reader.Laws as T′
 use Rattle.reader.proofs.Started as U
