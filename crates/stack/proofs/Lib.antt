@@ -1,0 +1,6 @@
+pub mod Walks
+pub mod Levels
+pub mod Kept
+pub mod Most
+pub mod Unique
+pub mod Examples
