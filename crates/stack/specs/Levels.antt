@@ -30,6 +30,9 @@ unfoldable pub levels : ℕ → Bool → List ℕ → ℕ → List ℕ
 levels zero flag image entry = []
 levels (suc k) flag image entry = 0 ∷ levelsAlong (levels k flag image) entry 0 (linesFrom flag false (drop entry image))
 
--- some prefix of the walk ends at level n, and no prefix above it
-abbrev pub Largest : ℕ → List ℕ → Type 0
-Largest n ls = ((i : ℕ) × ((i < length ls) × (getD ls i 0 ≡ n))) × ((i : ℕ) → getD ls i 0 ≤ n)
+-- a level at which some prefix of the walk ends, and one above which none does
+abbrev pub Reached : ℕ → List ℕ → Type 0
+Reached n ls = (i : ℕ) × (i < length ls) × (getD ls i 0 ≡ n)
+
+abbrev pub NotPassed : ℕ → List ℕ → Type 0
+NotPassed n ls = (i : ℕ) → getD ls i 0 ≤ n
