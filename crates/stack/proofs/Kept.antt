@@ -32,8 +32,7 @@ empty flag image =
     }
 
 module _ (flag : Bool) (image keys sums : List ℕ) (kept : Kept flag image keys sums) (i t left : ℕ) (few : left ≤ 16) (some : left ≡ 0 → ⊥) where
-  pub hit : t * 32 < getD keys i 0 → getD keys i 0 ≤ t * 32 + left → (p : ℕ)
-      → (gives (getD sums i 0) ≡ deeper left flag image p t) × (getD sums i 0 ≤ left * 8388610)
+  pub hit : t * 32 < getD keys i 0 → getD keys i 0 ≤ t * 32 + left → (p : ℕ) → gives (getD sums i 0) ≡ deeper left flag image p t
   hit a b p =
       let k = getD keys i 0 in
       let l = k - t * 32 - 1 in
@@ -41,24 +40,18 @@ module _ (flag : Bool) (image keys sums : List ℕ) (kept : Kept flag image keys
       let h : l ≤ 15 = omega arith in
       let q : k ≡ t * 32 + (l + 1) = omega arith in
       let m : l ≤ left - 1 = omega arith in
-      let w = kept .right i t l h q in
-      let v = w .1 in
-      let u : (l + 1) * 8388610 ≤ left * 8388610 = omega arith in
-      (sym (more-levels flag image l (left - 1) t (getD sums i 0) m (w .0)) ∙ one-less left flag image p t some, omega arith)
+      sym (more-levels flag image l (left - 1) t (getD sums i 0) m (kept .right i t l h q)) ∙ one-less left flag image p t some
 
-  pub stored : (n : ℕ) → i < 1024 → routine (left - 1) flag image t ≡ gives n → n ≤ left * 8388610
-      → Kept flag image (set keys i (t * 32 + left)) (set sums i n)
-  stored n inside e bound =
+  pub stored : (n : ℕ) → i < 1024 → routine (left - 1) flag image t ≡ gives n → Kept flag image (set keys i (t * 32 + left)) (set sums i n)
+  stored n inside e =
       record {
         keys-long = length-set keys i (t * 32 + left) ∙ kept .keys-long;
         sums-long = length-set sums i n ∙ kept .sums-long;
         right = λ j d l h q. go j d l h q (eqb j i) refl;
       }
     where
-      Right : ℕ → ℕ → ℕ → Type 0
-      Right j d l = (routine l flag image d ≡ gives (getD (set sums i n) j 0)) × (getD (set sums i n) j 0 ≤ (l + 1) * 8388610)
-
-      same : (j d l : ℕ) → l ≤ 15 → getD (set keys i (t * 32 + left)) j 0 ≡ d * 32 + (l + 1) → j ≡ i → Right j d l
+      same : (j d l : ℕ) → l ≤ 15 → getD (set keys i (t * 32 + left)) j 0 ≡ d * 32 + (l + 1) → j ≡ i
+          → routine l flag image d ≡ gives (getD (set sums i n) j 0)
       same j d l h q r =
           let x = kept .keys-long in
           let y = kept .sums-long in
@@ -70,10 +63,10 @@ module _ (flag : Bool) (image keys sums : List ℕ) (kept : Kept flag image keys
           let q′ : getD (set keys i (t * 32 + left)) i 0 ≡ d * 32 + (l + 1) = rw r at q in
           let u : d ≡ t = omega arith in
           let v : l ≡ left - 1 = omega arith in
-          let w : n ≤ (l + 1) * 8388610 = omega arith in
-          rw (r, s, u) (rw v e, w)
+          rw (r, s, u) (rw v e)
 
-      go : (j d l : ℕ) → l ≤ 15 → getD (set keys i (t * 32 + left)) j 0 ≡ d * 32 + (l + 1) → (b : Bool) → eqb j i ≡ b → Right j d l
+      go : (j d l : ℕ) → l ≤ 15 → getD (set keys i (t * 32 + left)) j 0 ≡ d * 32 + (l + 1) → (b : Bool) → eqb j i ≡ b
+          → routine l flag image d ≡ gives (getD (set sums i n) j 0)
       go j d l h q true r = same j d l h q (eqb-true j i r)
       go j d l h q false r =
           let k = getD-set-other keys i j (t * 32 + left) 0 (eqb-false j i r) in

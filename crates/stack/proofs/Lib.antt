@@ -4,5 +4,6 @@ pub mod Lists
 pub mod Largest
 pub mod Kept
 pub mod Most
+pub mod Small
 pub mod Unique
 pub mod Examples

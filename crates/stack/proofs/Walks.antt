@@ -24,7 +24,6 @@ use Rattle.stack.specs.declared.Measured.the-variants as is
 use Rattle.stack.specs.declared.Why.the-variants as why
 use Rattle.stack.specs.declared.turns.Turn.{Turn}
 use Rattle.stack.specs.Stack.{stops, ofMeasured, turnOf, larger, opens, callAt, andThen, onTurn, walks, deeper, routine}
-use Rattle.stack.specs.Memo.{Within}
 use Rattle.stack.proofs.Measured.{the-type}
 
 -- the walk of what is left from an offset on
@@ -64,11 +63,6 @@ pub none-left : (left : ℕ) (flag : Bool) (image : List ℕ) (p t : ℕ) → le
 unfolding deeper
 none-left left flag image p t h = rw h
 
-pub within : {m n : ℕ} → m ≤ n → (r : Measured) → Within m r → Within n r
-within h (is.Uses k) w = omega arith
-within h is.TooLong w = tt
-within h (is.Stopped y p) w = tt
-
 -- a line lies within the image
 pub spans : (flag : Bool) (image : List ℕ) (at : ℕ) → length image ≤ limit → at < length image → (l : Line) → l ≡ lineAt flag image at false
     → (n : ℕ) → n ≡ lengthOf l → (1 ≤ n) × (at + n ≤ length image)
@@ -104,9 +98,6 @@ stops-there rest x r e k = rw (← e) (go r k)
     go (is.Uses n) q = absurd (⊎-elim (λ z. let y : ⊥ = omega arith in y) (λ z. let y : ⊥ = omega arith in y) q)
     go is.TooLong q = refl
     go (is.Stopped w p) q = refl
-
-pub given-within : {m n : ℕ} {r : Measured} → r ≡ is.Uses n → Within m r → n ≤ m
-given-within e w = rw e at w
 
 both-right : (a b : Bool) → both a b ≡ true → b ≡ true
 both-right true b e = e

@@ -6,18 +6,10 @@ use mathlib.Core.Bool.{Bool}
 use mathlib.Core.List.{List}
 use lib.ListN.{length, getD}
 use Rattle.manual.specs.Answers.{gives}
-use Rattle.stack.specs.declared.Measured.{Measured}
-use Rattle.stack.specs.declared.Measured.the-variants as is
 use Rattle.stack.specs.Stack.{routine}
-
--- a number of bytes is at most m, so that no sum overflows
-abbrev pub Within : ℕ → Measured → Type 0
-Within m (is.Uses n) = n ≤ m
-Within m is.TooLong = Unit {0}
-Within m (is.Stopped w p) = Unit {0}
 
 pub record Kept (flag : Bool) (image keys sums : List ℕ) : Type 0 where
   pub keys-long : length keys ≡ 1024
   pub sums-long : length sums ≡ 1024
   pub right : (i e left : ℕ) → left ≤ 15 → getD keys i 0 ≡ e * 32 + (left + 1)
-      → (routine left flag image e ≡ gives (getD sums i 0)) × (getD sums i 0 ≤ (left + 1) * 8388610)
+      → routine left flag image e ≡ gives (getD sums i 0)

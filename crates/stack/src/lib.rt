@@ -1,11 +1,11 @@
 // The most stack bytes that a straight routine uses. `measure` walks a routine's lines; at a call line it measures the called routine
 // through `call`, with one level less.
 ghost use mathlib.Core.Path.{_≡_};
-ghost use Prim.Native.Nat.{_+_, _*_, _≤_, _<_};
+ghost use Prim.Native.Nat.{_≤_};
 ghost use lib.ListN.{length};
 ghost use Rattle.manual.specs.Lines.{limit};
 ghost use Rattle.stack.specs.Stack.{ofMeasured, larger, opens, callAt, deeper, routine, measures};
-ghost use Rattle.stack.specs.Memo.{Within, Kept};
+ghost use Rattle.stack.specs.Memo.{Kept};
 
 mod memo;
 mod turns;
@@ -66,7 +66,6 @@ fn call(
 ) -> Measured
     requires { ⌜ (length (now image) ≤ limit) × (left ≤ 16) × Kept (target .has_16_bit_lds_sts) (now image) (now keys) (now sums) ⌝ }
     ensures { λ r. ⌜ (ofMeasured r ≡ callAt (now (image .entry)) (deeper left (target .has_16_bit_lds_sts) (now (image .entry))) at to)
-        × Within (left * 8388610) r
         × Kept (target .has_16_bit_lds_sts) (now (image .entry)) (now (keys .exit)) (now (sums .exit)) ⌝ }
 {
     let Reach::At(t) = to else {
@@ -109,7 +108,6 @@ fn measure(
 ) -> Measured
     requires { ⌜ (length (now image) ≤ limit) × (left ≤ 16) × Kept (target .has_16_bit_lds_sts) (now image) (now keys) (now sums) ⌝ }
     ensures { λ r. ⌜ (ofMeasured r ≡ routine left (target .has_16_bit_lds_sts) (now (image .entry)) entry)
-        × Within ((left + 1) * 8388610) r
         × Kept (target .has_16_bit_lds_sts) (now (image .entry)) (now (keys .exit)) (now (sums .exit)) ⌝ }
 {
     let mut at = entry;

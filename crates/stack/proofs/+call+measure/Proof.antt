@@ -17,8 +17,10 @@ use Rattle.stack.specs.declared.turns.Turn.{Turn}
 use Rattle.stack.specs.declared.turns.Turn.the-variants as turn
 use Rattle.stack.specs.Stack.{larger, onTurn, deeper, routine}
 use Rattle.stack.specs.Memo.{Kept}
-use Rattle.stack.proofs.Walks.{from, moves, ends, spans, starts, larger-le, one-less, none-left, within, call-shut, call-open, open-inside, goes-on, stops-there, given-within}
+use Rattle.stack.proofs.Walks.{from, moves, ends, spans, starts, larger-le, one-less, none-left, call-shut, call-open, open-inside, goes-on, stops-there}
 use Rattle.stack.proofs.Most.{Most, turn-most}
+use Rattle.manual.specs.Lines.{limit}
+use Rattle.stack.proofs.Small.{call-uses}
 use Rattle.stack.proofs.Kept.{hit, stored}
 use Rattle.stack.proofs.call.Reads as call
 use Rattle.stack.proofs.call.Kinds as call-kinds
@@ -91,6 +93,16 @@ here t m =
           ∙ l .loop .inv .2,
     )
 
+-- what a called routine uses is little
+used : (t : ℕ) (m : measure-lts.After-call (line-at-reads.Asked, line-at-reads.Learnt, line-length-reads.Asked, line-length-reads.Learnt, turn-of-reads.Asked, turn-of-reads.Learnt, larger-of-reads.Asked, larger-of-reads.Learnt, call-below t, call.Post) (measure-at t) measure.Post measure-Inv-loop measure-μ-loop)
+    → (n : ℕ) → m .call .result ≡ is.Uses n → n ≤ m .before .before .before .before .before .before .before .before .before .before .before .before .args .left * 8388610
+used t m n e =
+    let l = m .before .before .before .before .before .before .before .before .before .before in
+    let short = l .before .before .pre .1 .0 in
+    let inside = m .before .before .before .before .before .before .before .before .before .loop-test .taken in
+    call-uses (l .before .before .args .target .«has_16_bit_lds_sts») (now (l .before .before .args .image)) short limit (omega arith)
+    (l .before .before .args .left) (l .loop .at) (omega arith) (m .before .before .before .before .turn2 .given .0 .0) (m .call .result) n (m .call .ensures .0) e
+
 pub +call+measure-spec : {M : Type 1} → statement M
 +call+measure-spec =
     close
@@ -102,10 +114,10 @@ pub +call+measure-spec : {M : Type 1} → statement M
     call.Post
     (λ c. search needs)
     (λ c. search needs)
-    (λ c. rw (c .enum-told .given .1) (refl, tt, c .before .before .before .pre .1 .2))
+    (λ c. rw (c .enum-told .given .1) (refl, c .before .before .before .pre .1 .2))
     (λ c κs. search needs)
-    (λ c. (call-shut _ _ _ _ _ (c .before .before .before .to .given .1) (sym (c .before .opens-at .ensures) ∙ not-true _ (c .if1 .taken)), tt, c .before .before .before .before .before .before .pre .1 .2))
-    (λ c. (none-left _ _ _ _ _ (c .if2 .taken) ∙ call-open _ _ _ _ _ (c .before .before .before .before .to .given .1) (sym (c .before .before .opens-at .ensures) ∙ not-false _ (c .before .if1 .left)), tt, c .before .before .before .before .before .before .before .pre .1 .2))
+    (λ c. (call-shut _ _ _ _ _ (c .before .before .before .to .given .1) (sym (c .before .opens-at .ensures) ∙ not-true _ (c .if1 .taken)), c .before .before .before .before .before .before .pre .1 .2))
+    (λ c. (none-left _ _ _ _ _ (c .if2 .taken) ∙ call-open _ _ _ _ _ (c .before .before .before .before .to .given .1) (sym (c .before .before .opens-at .ensures) ∙ not-false _ (c .before .if1 .left)), c .before .before .before .before .before .before .before .pre .1 .2))
     (λ c κs. search needs)
     (λ c. let t′ = c .before .before .before .before .before .before .to .given .0 .0 in let image = now (c .before .before .before .before .before .before .before .before .before .args .image) in let o = open-inside image t′ (sym (c .before .before .before .before .opens-at .ensures) ∙ not-false _ (c .before .before .before .if1 .left)) in let z = c .before .before .before .before .before .before .before .before .before .pre .1 .0 in let w = c .before .before .before .before .before .before .before .before .before .pre .1 .1 in let n = c .before .before .before .before .before .before .before .before .before .args .left in let h : t′ * 32 < 2 ^ 64 = omega arith in record { fits = h })
     (λ c. let t′ = c .before .before .before .before .before .before .to .given .0 .0 in let image = now (c .before .before .before .before .before .before .before .before .before .args .image) in let o = open-inside image t′ (sym (c .before .before .before .before .opens-at .ensures) ∙ not-false _ (c .before .before .before .if1 .left)) in let z = c .before .before .before .before .before .before .before .before .before .pre .1 .0 in let w = c .before .before .before .before .before .before .before .before .before .pre .1 .1 in let n = c .before .before .before .before .before .before .before .before .before .args .left in let h : t′ * 32 + n < 2 ^ 64 = omega arith in record { fits = h })
@@ -113,17 +125,17 @@ pub +call+measure-spec : {M : Type 1} → statement M
     (λ c. c .place-of .ensures)
     (λ c. let q = c .before .before .before .place-of .ensures in let h : c .before .before .before .place-of .result * 8 < 2 ^ 64 = omega arith in record { fits = h })
     (λ c. c .before .before .before .place-of .ensures)
-    (λ c. let t′ = c .before .before .before .before .before .before .before .before .before .before .to .given .0 .0 in let image = now (c .before .before .before .before .before .before .before .before .before .before .before .before .before .args .image) in let n = c .before .before .before .before .before .before .before .before .before .before .before .before .before .args .left in let w = hit (c .before .before .before .before .before .before .before .before .before .before .before .before .before .args .target .«has_16_bit_lds_sts») image (now (c .before .before .before .before .before .before .before .before .before .before .before .before .before .args .keys)) (now (c .before .before .before .before .before .before .before .before .before .before .before .before .before .args .sums)) (c .before .before .before .before .before .before .before .before .before .before .before .before .before .pre .1 .2) (c .before .before .before .before .place-of .result) t′ n (c .before .before .before .before .before .before .before .before .before .before .before .before .before .pre .1 .1) (c .before .before .before .before .before .before .if2 .left) (c .before .before .if3 .taken) (c .before .if4 .taken) (c .before .before .before .before .before .before .before .before .before .before .before .before .before .args .at) in (w .0 ∙ call-open _ _ _ _ _ (c .before .before .before .before .before .before .before .before .before .before .to .given .1) (sym (c .before .before .before .before .before .before .before .before .opens-at .ensures) ∙ not-false _ (c .before .before .before .before .before .before .before .if1 .left)), w .1, c .before .before .before .before .before .before .before .before .before .before .before .before .before .pre .1 .2))
+    (λ c. let t′ = c .before .before .before .before .before .before .before .before .before .before .to .given .0 .0 in let image = now (c .before .before .before .before .before .before .before .before .before .before .before .before .before .args .image) in let n = c .before .before .before .before .before .before .before .before .before .before .before .before .before .args .left in let w = hit (c .before .before .before .before .before .before .before .before .before .before .before .before .before .args .target .«has_16_bit_lds_sts») image (now (c .before .before .before .before .before .before .before .before .before .before .before .before .before .args .keys)) (now (c .before .before .before .before .before .before .before .before .before .before .before .before .before .args .sums)) (c .before .before .before .before .before .before .before .before .before .before .before .before .before .pre .1 .2) (c .before .before .before .before .place-of .result) t′ n (c .before .before .before .before .before .before .before .before .before .before .before .before .before .pre .1 .1) (c .before .before .before .before .before .before .if2 .left) (c .before .before .if3 .taken) (c .before .if4 .taken) (c .before .before .before .before .before .before .before .before .before .before .before .before .before .args .at) in (w ∙ call-open _ _ _ _ _ (c .before .before .before .before .before .before .before .before .before .before .to .given .1) (sym (c .before .before .before .before .before .before .before .before .opens-at .ensures) ∙ not-false _ (c .before .before .before .before .before .before .before .if1 .left)), c .before .before .before .before .before .before .before .before .before .before .before .before .before .pre .1 .2))
     (λ c. pos-of-ne-zero (c .before .before .before .before .if2 .left))
     (λ c κs. (let n = c .before .before .before .before .before .before .before .before .before .before .before .before .before .args .left in let p = pos-of-ne-zero (c .before .before .before .before .before .before .if2 .left) in let e : n * 2 ≡ t = c .before .before .before .before .before .before .before .before .before .before .before .before .before .pre .0 in let h : (n - 1) * 2 + 1 < t = omega arith in h, (c .before .before .before .before .before .before .before .before .before .before .before .before .before .pre .1 .0, (let n = c .before .before .before .before .before .before .before .before .before .before .before .before .before .args .left in let w = c .before .before .before .before .before .before .before .before .before .before .before .before .before .pre .1 .1 in let h : n - 1 ≤ 16 = omega arith in h), c .before .before .before .before .before .before .before .before .before .before .before .before .before .pre .1 .2)))
     (λ c. search needs)
-    (λ c. (c .before .measure .ensures .0 ∙ one-less _ _ _ _ _ (c .before .before .before .before .before .before .before .before .if2 .left) ∙ call-open _ _ _ _ _ (c .before .before .before .before .before .before .before .before .before .before .before .before .to .given .1) (sym (c .before .before .before .before .before .before .before .before .before .before .opens-at .ensures) ∙ not-false _ (c .before .before .before .before .before .before .before .before .before .if1 .left)), within (let n = c .before .before .before .before .before .before .before .before .before .before .before .before .before .before .before .args .left in let p = pos-of-ne-zero (c .before .before .before .before .before .before .before .before .if2 .left) in let h : (n - 1 + 1) * 8388610 ≤ n * 8388610 = omega arith in h) (c .before .measure .result) (c .before .measure .ensures .1), c .before .measure .ensures .2))
+    (λ c. (c .before .measure .ensures .0 ∙ one-less _ _ _ _ _ (c .before .before .before .before .before .before .before .before .if2 .left) ∙ call-open _ _ _ _ _ (c .before .before .before .before .before .before .before .before .before .before .before .before .to .given .1) (sym (c .before .before .before .before .before .before .before .before .before .before .opens-at .ensures) ∙ not-false _ (c .before .before .before .before .before .before .before .before .before .if1 .left)), c .before .measure .ensures .1))
     (λ c κs. search needs)
     (λ c. let q = c .place-of2 .ensures in let h : c .place-of2 .result * 8 < 2 ^ 64 = omega arith in record { fits = h })
     (λ c. c .place-of2 .ensures)
     (λ c. let q = c .place-of2 .ensures in let h : c .place-of2 .result * 8 < 2 ^ 64 = omega arith in record { fits = h })
     (λ c. c .place-of2 .ensures)
-    (λ c. let t′ = c .before .before .before .before .before .before .before .before .before .before .before .before .before .before .before .before .to .given .0 .0 in let image = now (c .before .before .before .before .before .before .before .before .before .before .before .before .before .before .before .before .before .before .before .args .image) in let n = c .before .before .before .before .before .before .before .before .before .before .before .before .before .before .before .before .before .before .before .args .left in let uses = c .before .before .before .m .given .0 .0 in let r = c .before .before .before .before .before .measure .result in let q : r ≡ is.Uses uses = c .before .before .before .m .given .1 in let e : gives uses ≡ routine (n - 1) (c .before .before .before .before .before .before .before .before .before .before .before .before .before .before .before .before .before .before .before .args .target .«has_16_bit_lds_sts») image t′ = rw q at (c .before .before .before .before .before .measure .ensures .0) in let b : uses ≤ n * 8388610 = given-within q (within (let n = c .before .before .before .before .before .before .before .before .before .before .before .before .before .before .before .before .before .before .before .args .left in let p = pos-of-ne-zero (c .before .before .before .before .before .before .before .before .before .before .before .before .if2 .left) in let h : (n - 1 + 1) * 8388610 ≤ n * 8388610 = omega arith in h) r (c .before .before .before .before .before .measure .ensures .1)) in (e ∙ one-less _ _ _ _ _ (c .before .before .before .before .before .before .before .before .before .before .before .before .if2 .left) ∙ call-open _ _ _ _ _ (c .before .before .before .before .before .before .before .before .before .before .before .before .before .before .before .before .to .given .1) (sym (c .before .before .before .before .before .before .before .before .before .before .before .before .before .before .opens-at .ensures) ∙ not-false _ (c .before .before .before .before .before .before .before .before .before .before .before .before .before .if1 .left)), b, stored (c .before .before .before .before .before .before .before .before .before .before .before .before .before .before .before .before .before .before .before .args .target .«has_16_bit_lds_sts») image (c .before .before .before .before .before .measure .last .1 .1 .1 .1 .0) (c .before .before .before .before .before .measure .last .1 .1 .1 .1 .1 .0) (c .before .before .before .before .before .measure .ensures .2) (c .place-of2 .result) t′ n (c .before .before .before .before .before .before .before .before .before .before .before .before .before .before .before .before .before .before .before .pre .1 .1) (c .before .before .before .before .before .before .before .before .before .before .before .before .if2 .left) uses (c .place-of2 .ensures) (sym e) b)))
+    (λ c. let t′ = c .before .before .before .before .before .before .before .before .before .before .before .before .before .before .before .before .to .given .0 .0 in let image = now (c .before .before .before .before .before .before .before .before .before .before .before .before .before .before .before .before .before .before .before .args .image) in let n = c .before .before .before .before .before .before .before .before .before .before .before .before .before .before .before .before .before .before .before .args .left in let uses = c .before .before .before .m .given .0 .0 in let r = c .before .before .before .before .before .measure .result in let q : r ≡ is.Uses uses = c .before .before .before .m .given .1 in let e : gives uses ≡ routine (n - 1) (c .before .before .before .before .before .before .before .before .before .before .before .before .before .before .before .before .before .before .before .args .target .«has_16_bit_lds_sts») image t′ = rw q at (c .before .before .before .before .before .measure .ensures .0) in (e ∙ one-less _ _ _ _ _ (c .before .before .before .before .before .before .before .before .before .before .before .before .if2 .left) ∙ call-open _ _ _ _ _ (c .before .before .before .before .before .before .before .before .before .before .before .before .before .before .before .before .to .given .1) (sym (c .before .before .before .before .before .before .before .before .before .before .before .before .before .before .opens-at .ensures) ∙ not-false _ (c .before .before .before .before .before .before .before .before .before .before .before .before .before .if1 .left)), stored (c .before .before .before .before .before .before .before .before .before .before .before .before .before .before .before .before .before .before .before .args .target .«has_16_bit_lds_sts») image (c .before .before .before .before .before .measure .last .1 .1 .1 .1 .0) (c .before .before .before .before .before .measure .last .1 .1 .1 .1 .1 .0) (c .before .before .before .before .before .measure .ensures .1) (c .place-of2 .result) t′ n (c .before .before .before .before .before .before .before .before .before .before .before .before .before .before .before .before .before .before .before .pre .1 .1) (c .before .before .before .before .before .before .before .before .before .before .before .before .if2 .left) uses (c .place-of2 .ensures) (sym e))))
     (λ t.
     measure-lts.spec (line-at-reads.Asked, line-at-reads.Learnt, line-length-reads.Asked, line-length-reads.Learnt, turn-of-reads.Asked, turn-of-reads.Learnt, larger-of-reads.Asked, larger-of-reads.Learnt, call-below t, call.Post)
     (measure-at t)
@@ -140,16 +152,16 @@ pub +call+measure-spec : {M : Type 1} → statement M
     (λ c. search needs)
     (λ c κs. (let n = c .before .before .before .before .before .before .before .before .before .before .before .args .left in let e : n * 2 + 1 ≡ t = c .before .before .before .before .before .before .before .before .before .before .before .pre .0 in let h : n * 2 < t = omega arith in h, (c .before .before .before .before .before .before .before .before .before .before .before .pre .1 .0, c .before .before .before .before .before .before .before .before .before .before .before .pre .1 .1, c .before .before .before .before .before .before .before .before .before .loop .inv .3)))
     (λ c. search needs)
-    (λ c. (stops-there _ _ (c .before .call .result) (c .before .call .ensures .0) (c .match2 .keys2) ∙ here t (c .before .before .before .before .before .before .before) .3 (turn.Calls (c .before .before .before .before .before .turn2 .given .0 .0)) (c .before .before .before .before .before .turn2 .given .1), within (let n = c .before .before .before .before .before .before .before .before .before .before .before .before .before .args .left in let h : n * 8388610 ≤ (n + 1) * 8388610 = omega arith in h) (c .before .call .result) (c .before .call .ensures .1), c .before .call .ensures .2))
+    (λ c. (stops-there _ _ (c .before .call .result) (c .before .call .ensures .0) (c .match2 .keys2) ∙ here t (c .before .before .before .before .before .before .before) .3 (turn.Calls (c .before .before .before .before .before .turn2 .given .0 .0)) (c .before .before .before .before .before .turn2 .given .1), c .before .call .ensures .1))
     (λ c. let k = c .before .before .before .before .before .before .before .before .before .before .before .before .before .loop .inv .0 in let h = c .before .before .before .before .before .before .before .before .before .before .before .before .loop-test .taken in let s = c .before .before .before .before .before .before .before .before .before .before .before .before .before .before .before .pre .1 .0 in omega arith)
-    (λ c. let k = c .before .before .before .before .before .before .before .before .before .before .before .before .before .loop .inv .0 in let h = c .before .before .before .before .before .before .before .before .before .before .before .before .loop-test .taken in let s = c .before .before .before .before .before .before .before .before .before .before .before .before .before .before .before .pre .1 .0 in let f = c .before .before .before .before .before .before .before .before .before .before .before .before .before .before .before .pre .1 .1 in let w = given-within (c .before .called .given .1) (c .before .before .before .call .ensures .1) in omega arith)
+    (λ c. let k = c .before .before .before .before .before .before .before .before .before .before .before .before .before .loop .inv .0 in let h = c .before .before .before .before .before .before .before .before .before .before .before .before .loop-test .taken in let s = c .before .before .before .before .before .before .before .before .before .before .before .before .before .before .before .pre .1 .0 in let f = c .before .before .before .before .before .before .before .before .before .before .before .before .before .before .before .pre .1 .1 in let w = used t (c .before .before .before) _ (c .before .called .given .1) in omega arith)
     (λ c κs. search needs)
     (λ c. search needs)
-    (λ c. (here t (c .before .before) .3 turn.Returns (c .enum-told .given .1), c .before .before .before .before .before .before .loop .inv .1, c .before .before .before .before .before .before .loop .inv .3))
+    (λ c. (here t (c .before .before) .3 turn.Returns (c .enum-told .given .1), c .before .before .before .before .before .before .loop .inv .3))
     (λ c. search needs)
-    (λ c. (here t (c .before .before .before) .3 (turn.Stops (c .before .turn3 .given .0 .0)) (c .before .turn3 .given .1), tt, c .before .before .before .before .before .before .before .loop .inv .3))
+    (λ c. (here t (c .before .before .before) .3 (turn.Stops (c .before .turn3 .given .0 .0)) (c .before .turn3 .given .1), c .before .before .before .before .before .before .before .loop .inv .3))
     (λ c. let q = here t (c .before .before .before .before) in let a = q .0 in let z = q .1 in omega arith)
     (λ c. let q = here t (c .before .before .before .before) in let a = q .0 in let z = q .1 in let i = c .before .before .before .before .before .before .before .before .loop .inv .0 in let j = c .before .before .before .before .before .before .before .before .loop .inv .1 in let s = c .before .before .before .before .before .before .before .before .before .before .pre .1 .0 in let l = c .before .before .turn .given .0 .0 in let m : l ≤ c .before .before .before .before .before .before .before .before .loop .level + 1 = rw (c .before .before .turn .given .1) at (q .2) in (omega arith, rw (c .larger-of .ensures) (larger-le _ _ _ j (omega arith)), rw (c .larger-of .ensures) (here t (c .before .before .before .before) .3 (turn.Level (c .before .before .turn .given .0 .0)) (c .before .before .turn .given .1)), c .before .before .before .before .before .before .before .before .loop .inv .3))
     (λ c. let q = here t (c .before .before .before .before .before .before .before .before .before .before) in let a = q .0 in let z = q .1 in omega arith)
-    (λ c. let q = here t (c .before .before .before .before .before .before .before .before .before .before) in let a = q .0 in let z = q .1 in let i = c .before .before .before .before .before .before .before .before .before .before .before .before .before .before .loop .inv .0 in let j = c .before .before .before .before .before .before .before .before .before .before .before .before .before .before .loop .inv .1 in let s = c .before .before .before .before .before .before .before .before .before .before .before .before .before .before .before .before .pre .1 .0 in let w = given-within (c .before .before .called .given .1) (c .before .before .before .before .call .ensures .1) in (omega arith, rw (c .larger-of2 .ensures) (larger-le _ _ _ j (omega arith)), rw (c .larger-of2 .ensures) (goes-on (λ k. from _ _ _ _ _ (larger _ (_ + 2 + k))) _ _ _ (c .before .before .before .before .call .ensures .0) (c .before .before .called .given .1) ∙ here t (c .before .before .before .before .before .before .before .before .before .before) .3 (turn.Calls (c .before .before .before .before .before .before .before .before .turn2 .given .0 .0)) (c .before .before .before .before .before .before .before .before .turn2 .given .1)), c .before .before .before .before .call .ensures .2))
-    (λ c. (ends _ _ _ _ _ _ (c .loop-test .left) ∙ c .before .loop .inv .2, tt, c .before .loop .inv .3)))
+    (λ c. let q = here t (c .before .before .before .before .before .before .before .before .before .before) in let a = q .0 in let z = q .1 in let i = c .before .before .before .before .before .before .before .before .before .before .before .before .before .before .loop .inv .0 in let j = c .before .before .before .before .before .before .before .before .before .before .before .before .before .before .loop .inv .1 in let s = c .before .before .before .before .before .before .before .before .before .before .before .before .before .before .before .before .pre .1 .0 in let w = used t (c .before .before .before .before) _ (c .before .before .called .given .1) in (omega arith, rw (c .larger-of2 .ensures) (larger-le _ _ _ j (omega arith)), rw (c .larger-of2 .ensures) (goes-on (λ k. from _ _ _ _ _ (larger _ (_ + 2 + k))) _ _ _ (c .before .before .before .before .call .ensures .0) (c .before .before .called .given .1) ∙ here t (c .before .before .before .before .before .before .before .before .before .before) .3 (turn.Calls (c .before .before .before .before .before .before .before .before .turn2 .given .0 .0)) (c .before .before .before .before .before .before .before .before .turn2 .given .1)), c .before .before .before .before .call .ensures .1))
+    (λ c. (ends _ _ _ _ _ _ (c .loop-test .left) ∙ c .before .loop .inv .2, c .before .loop .inv .3)))
