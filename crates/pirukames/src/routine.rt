@@ -3,11 +3,12 @@ use avr::Target;
 use stack::Measured;
 use stack::Why;
 ghost use mathlib.Core.Path.{_≡_};
+ghost use Prim.Native.Nat.{_<_};
 ghost use Rattle.stack.specs.Stack.{numberOf, measures};
 ghost use Rattle.pirukames.specs.Library.{isSet, coded};
 
 fn number_of(why: Why) -> u64
-    ensures { λ r. ⌜ r ≡ numberOf why ⌝ }
+    ensures { λ r. ⌜ (r ≡ numberOf why) × (r < 38) ⌝ }
 {
     match why {
         Why::NoEntry => 30,
