@@ -10,7 +10,6 @@ use Rattle.manual.specs.Decode.{rowInstruction, decodes}
 use Rattle.manual.specs.Lines.{linesOwed, linesFrom}
 use Rattle.stack.specs.declared.Why.the-variants as why
 use Rattle.stack.specs.Stack.{stops, does, walks, deeper, routine, measures}
-use Rattle.stack.specs.Levels.{levelsAlong, levels}
 
 unfoldable pub images : List (List ℕ)
 images =

@@ -1,9 +1,9 @@
 -- The number that a routine is measured with is reached by some prefix of its walk, and passed by none.
-use mathlib.Core.Path.{_≡_, refl, ap, sym, _∙_}
+use mathlib.Core.Path.{_≡_, refl}
 use mathlib.Core.Bool.{Bool, true, false}
 use mathlib.Core.List.{List, [], _∷_, _++_, map}
 use mathlib.Core.Logic.{_⊎_, inl, inr}
-use Prim.Native.Nat.{ℕ, zero, suc, _+_, _≤_, _<_}
+use Prim.Native.Nat.{ℕ, zero, suc, _+_, _≤_}
 use native.Mathlib.Omega.{arith}
 use lib.Dec.{ltb}
 use lib.ListN.{length, drop}
@@ -19,7 +19,7 @@ use Rattle.stack.specs.declared.turns.Turn.the-variants as turn
 use Rattle.stack.specs.Stack.{stops, turnOf, larger, opens, andThen, onTurn, walks, deeper, routine, measures}
 use Rattle.stack.specs.Levels.{levelsAt, levelsAlong, levels, Reached, NotPassed}
 use Rattle.stack.proofs.Levels.{no-refusal}
-use Rattle.stack.proofs.Lists.{reached-first, reached-behind, reached-left, reached-right, reached-raised, not-passed-none, not-passed-first, not-passed-joined, not-passed-raised}
+use Rattle.stack.proofs.Lists.{reached-behind, reached-left, reached-right, reached-raised, not-passed-none, not-passed-first, not-passed-joined, not-passed-raised}
 
 one-number : {m n : ℕ} → _≡_ {A = Answer ℕ} (gives m) (gives n) → m ≡ n
 one-number e = cc

@@ -1,12 +1,9 @@
 -- Levels reached and not passed, in lists joined and in one raised.
-use mathlib.Core.Path.{_≡_, refl, ap}
+use mathlib.Core.Path.{ap}
 use mathlib.Core.List.{List, [], _∷_, _++_, map}
-use Prim.Native.Nat.{ℕ, zero, suc, _+_, _≤_, _<_}
+use Prim.Native.Nat.{ℕ, zero, suc, _+_, _≤_}
 use native.Mathlib.Omega.{arith}
 use Rattle.stack.specs.Levels.{Reached, NotPassed}
-
-pub reached-first : (n : ℕ) (ls : List ℕ) → Reached n (n ∷ ls)
-reached-first n ls = (0, omega arith, refl)
 
 pub reached-behind : {n : ℕ} (m : ℕ) (ls : List ℕ) → Reached n ls → Reached n (m ∷ ls)
 reached-behind m ls (i, h, e) = (suc i, omega arith, e)

@@ -9,10 +9,9 @@ use Rattle.avr.specs.declared.Operand.{Operand}
 use Rattle.avr.specs.declared.Line.{Line}
 use Rattle.avr.specs.declared.Line.the-variants as line
 use Rattle.manual.specs.Choice.{pick}
-use Rattle.stack.specs.declared.Why.the-variants as why
 use Rattle.stack.specs.declared.turns.Turn.{Turn}
 use Rattle.stack.specs.declared.turns.Turn.the-variants as turn
-use Rattle.stack.specs.Stack.{among, calling, leaving, returning, isStackPointer, written, popped, returned, does, turnOf}
+use Rattle.stack.specs.Stack.{among, calling, leaving, returning, isStackPointer, does, turnOf}
 
 -- a turn that goes on does so at level m at most
 abbrev pub Most : ℕ → Turn → Type 0

@@ -1,5 +1,5 @@
 -- One line of a routine, and one level of calls.
-use mathlib.Core.Path.{_≡_, refl, sym, _∙_}
+use mathlib.Core.Path.{_≡_, refl, sym}
 use mathlib.Core.Bool.{Bool, true, false}
 use mathlib.Core.List.{List, [], _∷_}
 use mathlib.Core.Logic.{⊎-elim}
@@ -14,7 +14,7 @@ use borrow.Author.Tests.{ltb-true}
 use Rattle.avr.specs.declared.Line.{Line}
 use Rattle.avr.specs.declared.Line.the-variants as line
 use Rattle.manual.specs.Choice.{pick, both}
-use Rattle.manual.specs.Answers.{Answer, gives}
+use Rattle.manual.specs.Answers.{Answer}
 use Rattle.manual.specs.Lines.{limit, lengthOf, tailAfter, lineAt, linesFrom}
 use Rattle.walk.specs.declared.helper.Reach.{Reach}
 use Rattle.walk.specs.declared.helper.Reach.the-variants.{At}

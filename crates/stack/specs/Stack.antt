@@ -1,7 +1,7 @@
 -- What a straight routine needs of the stack: the largest level that the pushes and calls of its lines reach, or why it is refused, and
 -- where. A routine is the lines from its entry to its first `ret` or `reti`.
 use Prim.Native.Nat.{ℕ, zero, suc, _+_, _-_, _%_}
-use mathlib.Core.Bool.{Bool, true, false}
+use mathlib.Core.Bool.{Bool, false}
 use mathlib.Core.List.{List, [], _∷_}
 use lib.Dec.{ltb, eqb}
 use lib.IntN.{ℤ, pos, negsuc}

@@ -65,14 +65,12 @@ fn call(
     sums: &mut [usize; 1024],
 ) -> Measured
     requires { ⌜ (length (now image) ≤ limit) × (left ≤ 16) × Kept (target .has_16_bit_lds_sts) (now image) (now keys) (now sums) ⌝ }
-    ensures { λ r. ⌜ (ofMeasured r ≡ callAt (now (image .entry)) (deeper left (target .has_16_bit_lds_sts) (now (image .entry))) at to)
-        × Kept (target .has_16_bit_lds_sts) (now (image .entry)) (now (keys .exit)) (now (sums .exit)) ⌝ }
+    ensures { λ r. ⌜ (ofMeasured r ≡ callAt (now (image .entry)) (deeper left (target .has_16_bit_lds_sts) (now (image .entry))) at to) × Kept (target .has_16_bit_lds_sts) (now (image .entry)) (now (keys .exit)) (now (sums .exit)) ⌝ }
 {
     let Reach::At(t) = to else {
         return Measured::Stopped(Why::NoEntry, at);
     };
-    let good = opens_at(image, t);
-    if !good {
+    if !opens_at(image, t) {
         return Measured::Stopped(Why::NoEntry, at);
     }
     if left == 0 {
@@ -107,8 +105,7 @@ fn measure(
     sums: &mut [usize; 1024],
 ) -> Measured
     requires { ⌜ (length (now image) ≤ limit) × (left ≤ 16) × Kept (target .has_16_bit_lds_sts) (now image) (now keys) (now sums) ⌝ }
-    ensures { λ r. ⌜ (ofMeasured r ≡ routine left (target .has_16_bit_lds_sts) (now (image .entry)) entry)
-        × Kept (target .has_16_bit_lds_sts) (now (image .entry)) (now (keys .exit)) (now (sums .exit)) ⌝ }
+    ensures { λ r. ⌜ (ofMeasured r ≡ routine left (target .has_16_bit_lds_sts) (now (image .entry)) entry) × Kept (target .has_16_bit_lds_sts) (now (image .entry)) (now (keys .exit)) (now (sums .exit)) ⌝ }
 {
     let mut at = entry;
     let mut level: usize = 0;
@@ -129,12 +126,8 @@ fn measure(
                 };
                 top = larger_of(top, level + 2 + n);
             }
-            Turn::Returns => {
-                return Measured::Uses(top);
-            }
-            Turn::Stops(why) => {
-                return Measured::Stopped(why, at);
-            }
+            Turn::Returns => return Measured::Uses(top),
+            Turn::Stops(why) => return Measured::Stopped(why, at),
         }
         at = next;
     }
@@ -148,8 +141,7 @@ pub fn stack_of(image: &[u8], target: Target, entry: usize) -> Measured
     if 8388608 < image.len() {
         return Measured::TooLong;
     }
-    let good = opens_at(image, entry);
-    if !good {
+    if !opens_at(image, entry) {
         return Measured::Stopped(Why::NoEntry, entry);
     }
     let mut keys = [0usize; 1024];

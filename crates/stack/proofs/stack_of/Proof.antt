@@ -1,6 +1,5 @@
 -- Refusal 5, the entry, and the routine with an empty memo.
-use mathlib.Core.Path.{_≡_, refl, sym, _∙_}
-use denote.Ref.{now}
+use mathlib.Core.Path.{sym, _∙_}
 use borrow.Author.Needs.{needs}
 use borrow.Author.Tests.{lt-ltb, le-ltb, not-true, not-false}
 use Rattle.stack.specs.Stack.{measures}

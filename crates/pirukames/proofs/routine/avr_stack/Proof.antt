@@ -1,11 +1,11 @@
 -- The answer of the measurement, coded: an offset is small.
-use mathlib.Core.Path.{_≡_, sym, ap, _∙_}
+use mathlib.Core.Path.{sym, ap, _∙_}
 use Prim.Native.Nat.{_≤_}
 use native.Mathlib.Omega.{arith}
 use denote.Ref.{now}
 use borrow.Author.Needs.{needs}
-use Rattle.stack.specs.Stack.{ofMeasured, measures}
-use Rattle.stack.proofs.Small.{Small, answer-small}
+use Rattle.stack.specs.Stack.{ofMeasured}
+use Rattle.stack.proofs.Small.{answer-small}
 use Rattle.pirukames.specs.Library.{isSet, coded}
 use Rattle.pirukames.proofs.routine.avr_stack.Statement.{statement}
 use Rattle.pirukames.proofs.routine.avr_stack.Tie as tie
