@@ -1,98 +1,42 @@
 use borrow.Author.Needs.{needs}
+use mathlib.Core.Path.{_≡_, sym, ap, _∙_}
+use borrow.Author.Tests.{eq-eqb, ne-eqb, le-ltb}
+use denote.Ref.{now}
+use Rattle.avr.specs.declared.Decoded.{Decoded}
+use Rattle.manual.specs.Answers.{ofDecoded}
+use Rattle.step.specs.Step.{onDecoded, steps}
+use Rattle.step.proofs.Steps.{from-here}
 use Rattle.step.proofs.step.Statement.{statement}
 use Rattle.step.proofs.step.Tie as tie
-use Rattle.step.proofs.step.Reads as reads
-use Rattle.step.proofs.step.Lts as lts
-use Rattle.decode.proofs.decode.Reads as decode-reads
-use Rattle.step.proofs.execute.Reads as execute-reads
-use Rattle.step.proofs.refused.Reads as refused-reads
-
--- src/lib.rt:132:9
-refused-requires : tie.Need-refused-requires
-refused-requires c κs = search needs
-
--- src/lib.rt:132:9
-returns : tie.Need-returns
-returns c = ?
-
--- src/lib.rt:135:9
-refused-requires-2 : tie.Need-refused-requires-2
-refused-requires-2 c κs = search needs
-
--- src/lib.rt:135:9
-returns-2 : tie.Need-returns-2
-returns-2 c = ?
-
--- src/lib.rt:138:9
-sub-decode : tie.Need-sub-decode
-sub-decode c = search needs
-
--- src/lib.rt:138:9
-part-decode-start : tie.Need-part-decode-start
-part-decode-start c = search needs
-
--- src/lib.rt:138:9
-part-decode-end : tie.Need-part-decode-end
-part-decode-end c = search needs
-
--- src/lib.rt:137:9
-decode-requires : tie.Need-decode-requires
-decode-requires c κs = search needs
-
--- src/lib.rt:144:30
-enum-known-d : tie.Need-enum-known-d
-enum-known-d c = search needs
-
--- src/lib.rt:144:36
-execute-requires : tie.Need-execute-requires
-execute-requires c κs = search needs
-
--- src/lib.rt:145:46
-enum-told : tie.Need-enum-told
-enum-told c = search needs
-
--- src/lib.rt:145:38
-refused-requires-3 : tie.Need-refused-requires-3
-refused-requires-3 c κs = search needs
-
--- src/lib.rt:146:38
-enum-told-2 : tie.Need-enum-told-2
-enum-told-2 c = search needs
-
--- src/lib.rt:146:30
-refused-requires-4 : tie.Need-refused-requires-4
-refused-requires-4 c κs = search needs
-
--- src/lib.rt:127:1
-returns-3 : tie.Need-returns-3
-returns-3 c = ?
-
--- src/lib.rt:127:1
-returns-4 : tie.Need-returns-4
-returns-4 c = ?
-
--- src/lib.rt:127:1
-returns-5 : tie.Need-returns-5
-returns-5 c = ?
 
 pub step-spec : {M : Type 1} → statement M
+unfolding steps
 step-spec =
     tie.close
     (tie.spec
-    refused-requires
-    returns
-    refused-requires-2
-    returns-2
-    sub-decode
-    part-decode-start
-    part-decode-end
-    decode-requires
-    enum-known-d
-    execute-requires
-    enum-told
-    refused-requires-3
-    enum-told-2
-    refused-requires-4
-    returns-3
-    returns-4
-    returns-5)
+    (λ c κs. search needs)
+    (λ c. rw (c .refused .ensures, ne-eqb _ _ (c .before .if1 .taken)))
+    (λ c κs. search needs)
+    (λ c. rw (c .refused2 .ensures, eq-eqb _ _ (c .before .before .if1 .left), le-ltb _ _ (c .before .if2 .taken)))
+    (λ c. search needs)
+    (λ c. search needs)
+    (λ c. search needs)
+    (λ c κs. search needs)
+    (λ c. search needs)
+    (λ c κs. search needs)
+    (λ c. search needs)
+    (λ c κs. search needs)
+    (λ c. search needs)
+    (λ c κs. search needs)
+    (λ c.
+    let a = c .before .before .before .before .before .before .before .before .before .args in
+    c .execute .ensures ∙ sym (ap (λ (d : Decoded). onDecoded (now (a .image)) (a .state) (ofDecoded d)) (c .before .before .d .given .1))
+    ∙ from-here (now (a .image)) (a .state) (c .before .before .before .before .before .before .before .if1 .left) (c .before .before .before .before .before .before .if2 .left) (c .before .before .before .before .decode .result) (c .before .before .before .before .decode .ensures))
+    (λ c.
+    let a = c .before .before .before .before .before .before .before .before .args in
+    c .refused3 .ensures ∙ sym (ap (λ (d : Decoded). onDecoded (now (a .image)) (a .state) (ofDecoded d)) (c .before .enum-told .given .1))
+    ∙ from-here (now (a .image)) (a .state) (c .before .before .before .before .before .before .if1 .left) (c .before .before .before .before .before .if2 .left) (c .before .before .before .decode .result) (c .before .before .before .decode .ensures))
+    (λ c.
+    let a = c .before .before .before .before .before .before .before .before .args in
+    c .refused4 .ensures ∙ sym (ap (λ (d : Decoded). onDecoded (now (a .image)) (a .state) (ofDecoded d)) (c .before .enum-told2 .given .1))
+    ∙ from-here (now (a .image)) (a .state) (c .before .before .before .before .before .before .if1 .left) (c .before .before .before .before .before .if2 .left) (c .before .before .before .decode .result) (c .before .before .before .decode .ensures)))

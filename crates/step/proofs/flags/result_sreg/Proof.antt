@@ -1,32 +1,16 @@
 use borrow.Author.Needs.{needs}
+use Rattle.manual.specs.Operation.{resultFlags}
+use Rattle.step.proofs.Zero.{zero-byte}
 use Rattle.step.proofs.flags.result_sreg.Statement.{statement}
 use Rattle.step.proofs.flags.result_sreg.Tie as tie
-use Rattle.step.proofs.flags.result_sreg.Reads as reads
-use Rattle.step.proofs.flags.result_sreg.Lts as lts
-use Rattle.step.proofs.flags.bit_of.Reads as bit-of-reads
-use Rattle.step.proofs.flags.with_flags.Reads as with-flags-reads
-
--- src/flags.rt:70:9
-bit-of-requires : tie.Need-bit-of-requires
-bit-of-requires c κs = search needs
-
--- src/flags.rt:71:9
-bit-of-requires-2 : tie.Need-bit-of-requires-2
-bit-of-requires-2 c κs = search needs
-
--- src/flags.rt:72:28
-bit-of-requires-3 : tie.Need-bit-of-requires-3
-bit-of-requires-3 c κs = search needs
-
--- src/flags.rt:72:5
-with-flags-requires : tie.Need-with-flags-requires
-with-flags-requires c κs = search needs
-
--- src/flags.rt:67:1
-returns : tie.Need-returns
-returns c = ?
 
 pub result-sreg-spec : {M : Type 1} → statement M
+unfolding resultFlags
 result-sreg-spec =
     tie.close
-    (tie.spec bit-of-requires bit-of-requires-2 bit-of-requires-3 with-flags-requires returns)
+    (tie.spec
+    (λ c κs. search needs)
+    (λ c κs. search needs)
+    (λ c κs. search needs)
+    (λ c κs. search needs)
+    (λ c. rw (← zero-byte (c .before .before .before .before .args .x) (search needs), c .with-flags .ensures, c .before .before .before .bit-of .ensures, c .before .before .bit-of2 .ensures, c .before .bit-of3 .ensures)))

@@ -1,29 +1,18 @@
 use borrow.Author.Needs.{needs}
+use Prim.Native.Nat.{_+_, _-_, _%_}
+use native.Mathlib.Omega.{arith}
+use Rattle.manual.specs.Operation.{decrement}
+use Rattle.step.proofs.Zero.{most-signed}
 use Rattle.step.proofs.operation.decrement_of.Statement.{statement}
 use Rattle.step.proofs.operation.decrement_of.Tie as tie
-use Rattle.step.proofs.operation.decrement_of.Reads as reads
-use Rattle.step.proofs.operation.decrement_of.Lts as lts
-use Rattle.step.proofs.flags.result_sreg.Reads as result-sreg-reads
-
--- src/operation.rt:68:15
-add-x : tie.Need-add-x
-add-x c = search needs
-
--- src/operation.rt:68:15
-sub-x : tie.Need-sub-x
-sub-x c = search needs
-
--- src/operation.rt:68:13
-cast-x : tie.Need-cast-x
-cast-x c = search needs
-
--- src/operation.rt:71:15
-result-sreg-requires : tie.Need-result-sreg-requires
-result-sreg-requires c κs = search needs
-
--- src/operation.rt:65:1
-returns : tie.Need-returns
-returns c = ?
 
 pub decrement-of-spec : {M : Type 1} → statement M
-decrement-of-spec = tie.close (tie.spec add-x sub-x cast-x result-sreg-requires returns)
+unfolding decrement
+decrement-of-spec =
+    tie.close
+    (tie.spec
+    (λ c. search needs)
+    (λ c. search needs)
+    (λ c. search needs)
+    (λ c κs. search needs)
+    (λ c. rw (c .result-sreg .ensures, ← most-signed ((256 + c .before .args .d - 1) % 256) (omega arith))))

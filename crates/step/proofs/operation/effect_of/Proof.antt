@@ -1,226 +1,53 @@
 use borrow.Author.Needs.{needs}
+use borrow.Author.Tests.{ne-eqb}
+use Rattle.manual.specs.Operation.{effectOf}
 use Rattle.step.proofs.operation.effect_of.Statement.{statement}
 use Rattle.step.proofs.operation.effect_of.Tie as tie
-use Rattle.step.proofs.operation.effect_of.Reads as reads
-use Rattle.step.proofs.operation.effect_of.Lts as lts
-use Rattle.step.proofs.flags.bit_of.Reads as bit-of-reads
-use Rattle.step.proofs.operation.decrement_of.Reads as decrement-of-reads
-use Rattle.step.proofs.operation.difference_of.Reads as difference-of-reads
-use Rattle.step.proofs.operation.increment_of.Reads as increment-of-reads
-use Rattle.step.proofs.operation.logical_of.Reads as logical-of-reads
-use Rattle.step.proofs.operation.sum_of.Reads as sum-of-reads
-
--- src/operation.rt:79:9
-bit-of-requires : tie.Need-bit-of-requires
-bit-of-requires c κs = search needs
-
--- src/operation.rt:80:9
-bit-of-requires-2 : tie.Need-bit-of-requires-2
-bit-of-requires-2 c κs = search needs
-
--- src/operation.rt:81:9
-bit-of-requires-3 : tie.Need-bit-of-requires-3
-bit-of-requires-3 c κs = search needs
-
--- src/operation.rt:86:29
-sum-of-requires : tie.Need-sum-of-requires
-sum-of-requires c κs = search needs
-
--- src/operation.rt:87:29
-sum-of-requires-2 : tie.Need-sum-of-requires-2
-sum-of-requires-2 c κs = search needs
-
--- src/operation.rt:88:30
-difference-of-requires : tie.Need-difference-of-requires
-difference-of-requires c κs = search needs
-
--- src/operation.rt:89:30
-difference-of-requires-2 : tie.Need-difference-of-requires-2
-difference-of-requires-2 c κs = search needs
-
--- src/operation.rt:90:30
-difference-of-requires-3 : tie.Need-difference-of-requires-3
-difference-of-requires-3 c κs = search needs
-
--- src/operation.rt:91:30
-difference-of-requires-4 : tie.Need-difference-of-requires-4
-difference-of-requires-4 c κs = search needs
-
--- src/operation.rt:92:32
-difference-of-requires-5 : tie.Need-difference-of-requires-5
-difference-of-requires-5 c κs = search needs
-
--- src/operation.rt:93:32
-difference-of-requires-6 : tie.Need-difference-of-requires-6
-difference-of-requires-6 c κs = search needs
-
--- src/operation.rt:94:32
-difference-of-requires-7 : tie.Need-difference-of-requires-7
-difference-of-requires-7 c κs = search needs
-
--- src/operation.rt:95:29
-logical-of-requires : tie.Need-logical-of-requires
-logical-of-requires c κs = search needs
-
--- src/operation.rt:96:29
-logical-of-requires-2 : tie.Need-logical-of-requires-2
-logical-of-requires-2 c κs = search needs
-
--- src/operation.rt:97:30
-logical-of-requires-3 : tie.Need-logical-of-requires-3
-logical-of-requires-3 c κs = search needs
-
--- src/operation.rt:98:30
-logical-of-requires-4 : tie.Need-logical-of-requires-4
-logical-of-requires-4 c κs = search needs
-
--- src/operation.rt:99:30
-logical-of-requires-5 : tie.Need-logical-of-requires-5
-logical-of-requires-5 c κs = search needs
-
--- src/operation.rt:100:30
-increment-of-requires : tie.Need-increment-of-requires
-increment-of-requires c κs = search needs
-
--- src/operation.rt:101:30
-decrement-of-requires : tie.Need-decrement-of-requires
-decrement-of-requires c κs = search needs
-
--- src/operation.rt:76:1
-returns : tie.Need-returns
-returns c = ?
-
--- src/operation.rt:76:1
-returns-2 : tie.Need-returns-2
-returns-2 c = ?
-
--- src/operation.rt:76:1
-returns-3 : tie.Need-returns-3
-returns-3 c = ?
-
--- src/operation.rt:76:1
-returns-4 : tie.Need-returns-4
-returns-4 c = ?
-
--- src/operation.rt:76:1
-returns-5 : tie.Need-returns-5
-returns-5 c = ?
-
--- src/operation.rt:76:1
-returns-6 : tie.Need-returns-6
-returns-6 c = ?
-
--- src/operation.rt:76:1
-returns-7 : tie.Need-returns-7
-returns-7 c = ?
-
--- src/operation.rt:76:1
-returns-8 : tie.Need-returns-8
-returns-8 c = ?
-
--- src/operation.rt:76:1
-returns-9 : tie.Need-returns-9
-returns-9 c = ?
-
--- src/operation.rt:76:1
-returns-10 : tie.Need-returns-10
-returns-10 c = ?
-
--- src/operation.rt:76:1
-returns-11 : tie.Need-returns-11
-returns-11 c = ?
-
--- src/operation.rt:76:1
-returns-12 : tie.Need-returns-12
-returns-12 c = ?
-
--- src/operation.rt:76:1
-returns-13 : tie.Need-returns-13
-returns-13 c = ?
-
--- src/operation.rt:76:1
-returns-14 : tie.Need-returns-14
-returns-14 c = ?
-
--- src/operation.rt:76:1
-returns-15 : tie.Need-returns-15
-returns-15 c = ?
-
--- src/operation.rt:76:1
-returns-16 : tie.Need-returns-16
-returns-16 c = ?
-
--- src/operation.rt:76:1
-returns-17 : tie.Need-returns-17
-returns-17 c = ?
-
--- src/operation.rt:76:1
-returns-18 : tie.Need-returns-18
-returns-18 c = ?
-
--- src/operation.rt:76:1
-returns-19 : tie.Need-returns-19
-returns-19 c = ?
-
--- src/operation.rt:76:1
-returns-20 : tie.Need-returns-20
-returns-20 c = ?
-
--- src/operation.rt:76:1
-returns-21 : tie.Need-returns-21
-returns-21 c = ?
-
--- src/operation.rt:76:1
-returns-22 : tie.Need-returns-22
-returns-22 c = ?
-
--- src/operation.rt:76:1
-returns-23 : tie.Need-returns-23
-returns-23 c = ?
 
 pub effect-of-spec : {M : Type 1} → statement M
+unfolding effectOf
 effect-of-spec =
     tie.close
     (tie.spec
-    bit-of-requires
-    bit-of-requires-2
-    bit-of-requires-3
-    sum-of-requires
-    sum-of-requires-2
-    difference-of-requires
-    difference-of-requires-2
-    difference-of-requires-3
-    difference-of-requires-4
-    difference-of-requires-5
-    difference-of-requires-6
-    difference-of-requires-7
-    logical-of-requires
-    logical-of-requires-2
-    logical-of-requires-3
-    logical-of-requires-4
-    logical-of-requires-5
-    increment-of-requires
-    decrement-of-requires
-    returns
-    returns-2
-    returns-3
-    returns-4
-    returns-5
-    returns-6
-    returns-7
-    returns-8
-    returns-9
-    returns-10
-    returns-11
-    returns-12
-    returns-13
-    returns-14
-    returns-15
-    returns-16
-    returns-17
-    returns-18
-    returns-19
-    returns-20
-    returns-21
-    returns-22
-    returns-23)
+    (λ c κs. search needs)
+    (λ c κs. search needs)
+    (λ c κs. search needs)
+    (λ c κs. search needs)
+    (λ c κs. search needs)
+    (λ c κs. search needs)
+    (λ c κs. search needs)
+    (λ c κs. search needs)
+    (λ c κs. search needs)
+    (λ c κs. search needs)
+    (λ c κs. search needs)
+    (λ c κs. search needs)
+    (λ c κs. search needs)
+    (λ c κs. search needs)
+    (λ c κs. search needs)
+    (λ c κs. search needs)
+    (λ c κs. search needs)
+    (λ c κs. search needs)
+    (λ c κs. search needs)
+    (λ c. rw (c .match .keys1))
+    (λ c. rw (c .match .keys2))
+    (λ c. rw (c .match .keys3))
+    (λ c. rw (c .before .match .keys4, c .sum-of .ensures))
+    (λ c. rw (c .before .match .keys5, c .sum-of2 .ensures, c .before .before .before .before .bit-of .ensures))
+    (λ c. rw (c .before .match .keys6, c .difference-of .ensures))
+    (λ c. rw (c .before .match .keys7, c .difference-of2 .ensures))
+    (λ c. rw (c .before .match .keys8, c .difference-of3 .ensures, c .before .before .before .before .bit-of .ensures, c .before .before .before .bit-of2 .ensures))
+    (λ c. rw (c .before .match .keys9, c .difference-of4 .ensures, c .before .before .before .before .bit-of .ensures, c .before .before .before .bit-of2 .ensures))
+    (λ c. rw (c .before .match .keys10, c .difference-of5 .ensures))
+    (λ c. rw (c .before .match .keys11, c .difference-of6 .ensures))
+    (λ c. rw (c .before .match .keys12, c .difference-of7 .ensures, c .before .before .before .before .bit-of .ensures, c .before .before .before .bit-of2 .ensures))
+    (λ c. rw (c .before .match .keys13, c .logical-of .ensures))
+    (λ c. rw (c .before .match .keys14, c .logical-of2 .ensures))
+    (λ c. rw (c .before .match .keys15, c .logical-of3 .ensures))
+    (λ c. rw (c .before .match .keys16, c .logical-of4 .ensures))
+    (λ c. rw (c .before .match .keys17, c .logical-of5 .ensures))
+    (λ c. rw (c .before .match .keys18, c .increment-of .ensures))
+    (λ c. rw (c .before .match .keys19, c .decrement-of .ensures))
+    (λ c. rw (c .match .keys20))
+    (λ c. rw (c .match .keys21, c .before .bit-of3 .ensures))
+    (λ c. rw (c .match .keys22, c .before .bit-of3 .ensures))
+    (λ c. let o = c .before .before .before .before .args .code in let r = c .match .rest in simp (ne-eqb o 49 (r .0 .0 .0 .0 .0 .0 .0 .0 .0 .0 .0 .0 .0 .0 .0 .0 .0 .0 .0 .0 .0 .1), ne-eqb o 39 (r .0 .0 .0 .0 .0 .0 .0 .0 .0 .0 .0 .0 .0 .0 .0 .0 .0 .0 .0 .0 .1), ne-eqb o 43 (r .0 .0 .0 .0 .0 .0 .0 .0 .0 .0 .0 .0 .0 .0 .0 .0 .0 .0 .0 .1), ne-eqb o 1 (r .0 .0 .0 .0 .0 .0 .0 .0 .0 .0 .0 .0 .0 .0 .0 .0 .0 .0 .1), ne-eqb o 0 (r .0 .0 .0 .0 .0 .0 .0 .0 .0 .0 .0 .0 .0 .0 .0 .0 .0 .1), ne-eqb o 73 (r .0 .0 .0 .0 .0 .0 .0 .0 .0 .0 .0 .0 .0 .0 .0 .0 .1), ne-eqb o 74 (r .0 .0 .0 .0 .0 .0 .0 .0 .0 .0 .0 .0 .0 .0 .0 .1), ne-eqb o 60 (r .0 .0 .0 .0 .0 .0 .0 .0 .0 .0 .0 .0 .0 .0 .1), ne-eqb o 61 (r .0 .0 .0 .0 .0 .0 .0 .0 .0 .0 .0 .0 .0 .1), ne-eqb o 16 (r .0 .0 .0 .0 .0 .0 .0 .0 .0 .0 .0 .0 .1), ne-eqb o 18 (r .0 .0 .0 .0 .0 .0 .0 .0 .0 .0 .0 .1), ne-eqb o 17 (r .0 .0 .0 .0 .0 .0 .0 .0 .0 .0 .1), ne-eqb o 3 (r .0 .0 .0 .0 .0 .0 .0 .0 .0 .1), ne-eqb o 4 (r .0 .0 .0 .0 .0 .0 .0 .0 .1), ne-eqb o 50 (r .0 .0 .0 .0 .0 .0 .0 .1), ne-eqb o 51 (r .0 .0 .0 .0 .0 .0 .1), ne-eqb o 25 (r .0 .0 .0 .0 .0 .1), ne-eqb o 32 (r .0 .0 .0 .0 .1), ne-eqb o 20 (r .0 .0 .0 .1), ne-eqb o 58 (r .0 .0 .1), ne-eqb o 9 (r .0 .1), ne-eqb o 8 (r .1))))
