@@ -1,80 +1,60 @@
+use borrow.Author.Needs.{needs}
+use mathlib.Core.Path.{_≡_, refl, sym, ap, _∙_}
+use Prim.Native.Nat.{_+_, _-_, _≤_}
+use native.Mathlib.Omega.{arith}
+use denote.Ref.{now}
+use lib.ListN.{length, drop, drop-of-length-le}
+use Rattle.replay.specs.Stream.{Held, takes}
+use Rattle.replay.specs.Answers.{ofTrace}
+use Rattle.replay.proofs.Turns.{frame-size, byte-size}
+use Rattle.replay.proofs.Lines.{Here, is-here, past-line, past-byte}
 use Rattle.replay.proofs.feed.Statement.{statement}
 use Rattle.replay.proofs.feed.Tie as tie
-use Rattle.replay.proofs.feed.Reads as reads
-use Rattle.replay.proofs.feed.Lts as lts
-use Rattle.replay.proofs.line.line_here.Reads as line-here-reads
-use Rattle.replay.proofs.turn.take_byte.Reads as take-byte-reads
-use Rattle.replay.proofs.turn.take_frame.Reads as take-frame-reads
 
 abbrev Inv-loop : tie.InvT-loop
-Inv-loop image piece t₀ at₀ t at = ?
+Inv-loop image piece t₀ at₀ t at = (at ≤ length piece) × (length (t .line) ≡ 72) × (takes image (ofTrace t₀) piece ≡ takes image (ofTrace t) (drop at piece))
 
 abbrev μ-loop : tie.MeasureT-loop
-μ-loop image piece t₀ at₀ t at = ?
+μ-loop image piece t₀ at₀ t at = length piece - at
 
--- src/lib.rt:48:5
-loop-holds : tie.Need-loop-holds Inv-loop μ-loop
-loop-holds c = ?
-
--- src/lib.rt:49:13
-line-here-requires : tie.Need-line-here-requires Inv-loop μ-loop
-line-here-requires c κs = ?
-
--- src/lib.rt:52:13
-take-frame-requires : tie.Need-take-frame-requires Inv-loop μ-loop
-take-frame-requires c κs = ?
-
--- src/lib.rt:53:13
-add-at : tie.Need-add-at Inv-loop μ-loop
-add-at c = ?
-
--- src/lib.rt:48:5
-loop-less : tie.Need-loop-less Inv-loop μ-loop
-loop-less c = ?
-
--- src/lib.rt:48:5
-loop-again : tie.Need-loop-again Inv-loop μ-loop
-loop-again c = ?
-
--- src/lib.rt:55:37
-shared-slice-read-take-byte : tie.Need-shared-slice-read-take-byte Inv-loop μ-loop
-shared-slice-read-take-byte c = ?
-
--- src/lib.rt:55:13
-take-byte-requires : tie.Need-take-byte-requires Inv-loop μ-loop
-take-byte-requires c κs = ?
-
--- src/lib.rt:56:13
-add-at-2 : tie.Need-add-at-2 Inv-loop μ-loop
-add-at-2 c = ?
-
--- src/lib.rt:48:5
-loop-less-2 : tie.Need-loop-less-2 Inv-loop μ-loop
-loop-less-2 c = ?
-
--- src/lib.rt:48:5
-loop-again-2 : tie.Need-loop-again-2 Inv-loop μ-loop
-loop-again-2 c = ?
-
--- src/lib.rt:43:1
-returns : tie.Need-returns Inv-loop μ-loop
-returns c = ?
+-- the line that was found
+here : (c : tie.After-take-frame Inv-loop μ-loop) → Here (now (c .before .before .before .before .before .before .before .before .args .piece)) (c .before .before .before .before .before .loop .at) (c .before .before .before .before .before .loop .t .count) (c .before .before .before .line-here .result .state)
+here c = is-here _ _ _ _ (sym (rw (c .before .before .if1 .taken) at (c .before .before .before .line-here .ensures)))
 
 pub feed-spec : {M : Type 1} → statement M
+unfolding takes
 feed-spec =
     tie.close
     (tie.spec
     Inv-loop
     μ-loop
-    loop-holds
-    line-here-requires
-    take-frame-requires
-    add-at
-    loop-less
-    loop-again
-    shared-slice-read-take-byte
-    take-byte-requires
-    add-at-2
-    loop-less-2
-    loop-again-2
-    returns)
+    (λ c. (omega arith, search needs, refl))
+    (λ c κs. search needs)
+    (λ c κs. search needs)
+    (λ c. let h = here c in omega (arith, h .fits))
+    (λ c. let h = here c in omega (arith, h .fits))
+    (λ c.
+    let a = c .before .before .before .before .before .before .before .before .args in
+    let o = c .before .before .before .before .before .loop in
+    let h = here c in (
+      omega (arith, h .fits),
+      ap (λ (u : Held). length (u .line)) (c .take-frame .ensures) ∙ frame-size (now (a .image)) (ofTrace (o .t)) (o .inv .1) (c .before .before .before .line-here .result .state),
+      o .inv .2 ∙ past-line (now (a .image)) (now (a .piece)) (o .at) (ofTrace (o .t)) (c .before .before .before .line-here .result .state) (o .inv .1) h
+      ∙ ap (λ (u : Held). takes (now (a .image)) u (drop (o .at + 73) (now (a .piece)))) (sym (c .take-frame .ensures)),
+    ))
+    (λ c. search needs)
+    (λ c κs. search needs)
+    (λ c. search needs)
+    (λ c. search needs)
+    (λ c.
+    let a = c .before .before .before .before .before .before .before .before .args in
+    let o = c .before .before .before .before .before .loop in (
+      search needs,
+      ap (λ (u : Held). length (u .line)) (c .take-byte .ensures) ∙ byte-size (now (a .image)) (ofTrace (o .t)) (o .inv .1) _,
+      o .inv .2 ∙ past-byte (now (a .image)) (now (a .piece)) (o .at) (ofTrace (o .t)) (c .before .before .before .before .loop-test .taken)
+      ∙ ap (λ (u : Held). takes (now (a .image)) u (drop (o .at + 1) (now (a .piece)))) (sym (c .take-byte .ensures)),
+    ))
+    (λ c.
+    let a = c .before .before .before .before .args in
+    let o = c .before .loop in
+    sym (o .inv .2 ∙ rw (drop-of-length-le (now (a .piece)) {i = o .at} (search needs)))))

@@ -1,125 +1,46 @@
 use borrow.Author.Needs.{needs}
+use borrow.Author.Tests.{not-true, not-false}
+use mathlib.Core.Path.{_≡_, sym, _∙_}
+use native.Mathlib.Omega.{arith}
+use denote.Ref.{now}
+use lib.ListN.{length, take, drop, length-take, length-drop}
+use Rattle.manual.specs.Spelt.{bytesSpelt}
+use Rattle.spell.proofs.Digits.{digits-take, digits-drop}
+use Rattle.spell.proofs.Spelt.{spelt-length}
+use Rattle.replay.proofs.Parts.{filled, frame-is, not-long, not-digits}
 use Rattle.replay.proofs.line.read_frame.Statement.{statement}
 use Rattle.replay.proofs.line.read_frame.Tie as tie
-use Rattle.replay.proofs.line.read_frame.Reads as reads
-use Rattle.replay.proofs.line.read_frame.Lts as lts
-use Rattle.replay.proofs.line.not_good.Reads as not-good-reads
-use Rattle.replay.proofs.line.wide.Reads as wide-reads
-use Rattle.spell.proofs.all_digits.Reads as all-digits-reads
-use Rattle.spell.proofs.helper.pair.Reads as pair-reads
-use Rattle.spell.proofs.helper.put_spelt.Reads as put-spelt-reads
-
--- src/line.rt:47:9
-not-good-requires : tie.Need-not-good-requires
-not-good-requires c κs = search needs
-
--- src/line.rt:47:9
-returns : tie.Need-returns
-returns c = ?
-
--- src/line.rt:49:9
-all-digits-requires : tie.Need-all-digits-requires
-all-digits-requires c κs = search needs
-
--- src/line.rt:50:9
-not-good-requires-2 : tie.Need-not-good-requires-2
-not-good-requires-2 c κs = search needs
-
--- src/line.rt:50:9
-returns-2 : tie.Need-returns-2
-returns-2 c = ?
-
--- src/line.rt:53:15
-sub-put-spelt : tie.Need-sub-put-spelt
-sub-put-spelt c = search needs
-
--- src/line.rt:53:15
-part-put-spelt-start : tie.Need-part-put-spelt-start
-part-put-spelt-start c = search needs
-
--- src/line.rt:53:15
-part-put-spelt-end : tie.Need-part-put-spelt-end
-part-put-spelt-end c = search needs
-
--- src/line.rt:53:29
-slice-aggregate-put-spelt : tie.Need-slice-aggregate-put-spelt
-slice-aggregate-put-spelt c = search needs
-
--- src/line.rt:53:5
-put-spelt-requires : tie.Need-put-spelt-requires
-put-spelt-requires c κs = ?
-
--- src/line.rt:54:19
-pair-requires : tie.Need-pair-requires
-pair-requires c κs = ?
-
--- src/line.rt:54:14
-wide-requires : tie.Need-wide-requires
-wide-requires c κs = search needs
-
--- src/line.rt:54:14
-mul-at : tie.Need-mul-at
-mul-at c = search needs
-
--- src/line.rt:54:49
-pair-requires-2 : tie.Need-pair-requires-2
-pair-requires-2 c κs = ?
-
--- src/line.rt:54:44
-wide-requires-2 : tie.Need-wide-requires-2
-wide-requires-2 c κs = search needs
-
--- src/line.rt:54:44
-mul-at-2 : tie.Need-mul-at-2
-mul-at-2 c = search needs
-
--- src/line.rt:54:14
-add-at : tie.Need-add-at
-add-at c = search needs
-
--- src/line.rt:54:77
-pair-requires-3 : tie.Need-pair-requires-3
-pair-requires-3 c κs = ?
-
--- src/line.rt:54:72
-wide-requires-3 : tie.Need-wide-requires-3
-wide-requires-3 c κs = search needs
-
--- src/line.rt:54:14
-add-at-2 : tie.Need-add-at-2
-add-at-2 c = search needs
-
--- src/line.rt:55:9
-pair-requires-4 : tie.Need-pair-requires-4
-pair-requires-4 c κs = ?
-
--- src/line.rt:43:1
-returns-3 : tie.Need-returns-3
-returns-3 c = ?
 
 pub read-frame-spec : {M : Type 1} → statement M
 read-frame-spec =
     tie.close
     (tie.spec
-    not-good-requires
-    returns
-    all-digits-requires
-    not-good-requires-2
-    returns-2
-    sub-put-spelt
-    part-put-spelt-start
-    part-put-spelt-end
-    slice-aggregate-put-spelt
-    put-spelt-requires
-    pair-requires
-    wide-requires
-    mul-at
-    pair-requires-2
-    wide-requires-2
-    mul-at-2
-    add-at
-    pair-requires-3
-    wide-requires-3
-    add-at-2
-    pair-requires-4
-    returns-3)
+    (λ c κs. search needs)
+    (λ c. rw (c .not-good .ensures) (not-long (now (c .before .before .before .args .line)) (c .before .if1 .taken)))
+    (λ c κs. search needs)
+    (λ c κs. search needs)
+    (λ c. rw (c .not-good2 .ensures) (not-digits (now (c .before .before .before .before .before .args .line)) (c .before .before .before .if1 .left) (sym (c .before .before .all-digits .ensures) ∙ not-true _ (c .before .if2 .taken))))
+    (λ c. search needs)
+    (λ c. search needs)
+    (λ c. search needs)
+    (λ c. search needs)
+    (λ c κs.
+    let s = now (c .before .before .before .before .before .before .args .line) in
+    (simp (length-take, length-drop) (omega arith), digits-take 64 (drop 6 s) (digits-drop s 6 (sym (c .before .before .before .all-digits .ensures) ∙ not-false _ (c .before .before .if2 .left)))))
+    (λ c κs. (omega arith, sym (c .before .before .before .before .before .all-digits .ensures) ∙ not-false _ (c .before .before .before .before .if2 .left)))
+    (λ c κs. search needs)
+    (λ c. search needs)
+    (λ c κs. (omega arith, sym (c .before .before .before .before .before .before .before .all-digits .ensures) ∙ not-false _ (c .before .before .before .before .before .before .if2 .left)))
+    (λ c κs. search needs)
+    (λ c. search needs)
+    (λ c. search needs)
+    (λ c κs. (omega arith, sym (c .before .before .before .before .before .before .before .before .before .all-digits .ensures) ∙ not-false _ (c .before .before .before .before .before .before .before .before .if2 .left)))
+    (λ c κs. search needs)
+    (λ c. search needs)
+    (λ c κs. (omega arith, sym (c .before .before .before .before .before .before .before .before .before .before .before .all-digits .ensures) ∙ not-false _ (c .before .before .before .before .before .before .before .before .before .before .if2 .left)))
+    (λ c.
+    let s = now (c .before .before .before .before .before .before .before .before .before .before .before .before .before .before .before .args .line) in
+    let n : length s ≡ 72 = c .before .before .before .before .before .before .before .before .before .before .before .before .before .if1 .left in
+    let k : length (bytesSpelt (take 64 (drop 6 s))) ≡ 32 = spelt-length (take 64 (drop 6 s)) ∙ simp (length-take, length-drop, n) in
+    frame-is s n (sym (c .before .before .before .before .before .before .before .before .before .before .before .before .all-digits .ensures) ∙ not-false _ (c .before .before .before .before .before .before .before .before .before .before .before .if2 .left)) _ (filled _ (bytesSpelt (take 64 (drop 6 s))) _ _ (c .before .before .before .before .before .before .before .before .put-spelt .ensures) (rw k (omega arith))) _ _ _ _
+    (c .before .before .before .before .before .wide .ensures .0 ∙ c .before .before .before .before .before .before .pair .ensures) (c .before .before .before .wide2 .ensures .0 ∙ c .before .before .before .before .pair2 .ensures) (c .before .wide3 .ensures .0 ∙ c .before .before .pair3 .ensures) (c .pair4 .ensures)))

@@ -1,56 +1,21 @@
 use borrow.Author.Needs.{needs}
+use mathlib.Core.Path.{sym, ap, _∙_}
+use denote.Ref.{now}
+use Rattle.replay.specs.Answers.{ofReplayed, ofTrace}
+use Rattle.replay.proofs.Turns.{byte-stays, byte-goes}
 use Rattle.replay.proofs.turn.take_byte.Statement.{statement}
 use Rattle.replay.proofs.turn.take_byte.Tie as tie
-use Rattle.replay.proofs.turn.take_byte.Reads as reads
-use Rattle.replay.proofs.turn.take_byte.Lts as lts
-use Rattle.replay.proofs.turn.add_byte.Reads as add-byte-reads
-
--- src/turn.rt:136:26
-enum-known-answer : tie.Need-enum-known-answer
-enum-known-answer c = search needs
-
--- src/turn.rt:136:32
-add-byte-requires : tie.Need-add-byte-requires
-add-byte-requires c κs = search needs
-
--- src/turn.rt:137:34
-enum-told : tie.Need-enum-told
-enum-told c = search needs
-
--- src/turn.rt:138:33
-enum-told-2 : tie.Need-enum-told-2
-enum-told-2 c = search needs
-
--- src/turn.rt:139:36
-enum-told-3 : tie.Need-enum-told-3
-enum-told-3 c = search needs
-
--- src/turn.rt:131:1
-returns : tie.Need-returns
-returns c = ?
-
--- src/turn.rt:131:1
-returns-2 : tie.Need-returns-2
-returns-2 c = ?
-
--- src/turn.rt:131:1
-returns-3 : tie.Need-returns-3
-returns-3 c = ?
-
--- src/turn.rt:131:1
-returns-4 : tie.Need-returns-4
-returns-4 c = ?
 
 pub take-byte-spec : {M : Type 1} → statement M
 take-byte-spec =
     tie.close
     (tie.spec
-    enum-known-answer
-    add-byte-requires
-    enum-told
-    enum-told-2
-    enum-told-3
-    returns
-    returns-2
-    returns-3
-    returns-4)
+    (λ c. search needs)
+    (λ c κs. search needs)
+    (λ c. search needs)
+    (λ c. search needs)
+    (λ c. search needs)
+    (λ c. let a = c .before .before .before .before .before .args in c .add-byte .ensures ∙ byte-goes (now (a .image)) (a .b) (ofTrace (a .t)) _ (ap ofReplayed (c .before .before .answer .given .1)))
+    (λ c. let a = c .before .before .before .args in sym (byte-stays (now (a .image)) (a .b) (ofTrace (a .t)) _ _ (ap ofReplayed (c .enum-told .given .1))))
+    (λ c. let a = c .before .before .before .args in sym (byte-stays (now (a .image)) (a .b) (ofTrace (a .t)) _ _ (ap ofReplayed (c .enum-told2 .given .1))))
+    (λ c. let a = c .before .before .before .args in sym (byte-stays (now (a .image)) (a .b) (ofTrace (a .t)) _ _ (ap ofReplayed (c .enum-told3 .given .1)))))
