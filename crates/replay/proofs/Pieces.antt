@@ -85,7 +85,7 @@ module _ (image : List ℕ) where
   abbrev Runs : List ℕ → Type 0
   Runs s =
       (n : ℕ) (last : State) (q : List ℕ) (t : Held) → Holds n last q t → n + length s + 1 < 2 ^ 64
-          → ends image (takes image t s) ≡ follows image n last (front q (pieces s))
+      → ends image (takes image t s) ≡ follows image n last (front q (pieces s))
 
   -- behind a line, by what it gives
   after-line : (s : List ℕ) → Runs s → (n : ℕ) (last : State) (a : Answer State) → n + 1 + length s + 1 < 2 ^ 64

@@ -40,7 +40,7 @@ feed-spec =
       omega (arith, h .fits),
       ap (λ (u : Held). length (u .line)) (c .take-frame .ensures) ∙ frame-size (now (a .image)) (ofTrace (o .t)) (o .inv .1) (c .before .before .before .line-here .result .state),
       o .inv .2 ∙ past-line (now (a .image)) (now (a .piece)) (o .at) (ofTrace (o .t)) (c .before .before .before .line-here .result .state) (o .inv .1) h
-      ∙ ap (λ (u : Held). takes (now (a .image)) u (drop (o .at + 73) (now (a .piece)))) (sym (c .take-frame .ensures)),
+          ∙ ap (λ (u : Held). takes (now (a .image)) u (drop (o .at + 73) (now (a .piece)))) (sym (c .take-frame .ensures)),
     ))
     (λ c. search needs)
     (λ c κs. search needs)
@@ -52,7 +52,7 @@ feed-spec =
       search needs,
       ap (λ (u : Held). length (u .line)) (c .take-byte .ensures) ∙ byte-size (now (a .image)) (ofTrace (o .t)) (o .inv .1) _,
       o .inv .2 ∙ past-byte (now (a .image)) (now (a .piece)) (o .at) (ofTrace (o .t)) (c .before .before .before .before .loop-test .taken)
-      ∙ ap (λ (u : Held). takes (now (a .image)) u (drop (o .at + 1) (now (a .piece)))) (sym (c .take-byte .ensures)),
+          ∙ ap (λ (u : Held). takes (now (a .image)) u (drop (o .at + 1) (now (a .piece)))) (sym (c .take-byte .ensures)),
     ))
     (λ c.
     let a = c .before .before .before .before .args in
