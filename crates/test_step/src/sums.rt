@@ -25,20 +25,6 @@ pub(crate) fn value(i: usize) -> u8 {
     }
 }
 
-// Both C, both Z, and the other bits clear or set.
-fn status(i: usize) -> u8 {
-    match i {
-        0 => 0,
-        1 => 1,
-        2 => 2,
-        3 => 3,
-        4 => 252,
-        5 => 253,
-        6 => 254,
-        _ => 255,
-    }
-}
-
 pub(crate) fn image_of(w: u16) -> [u8; 16] {
     let mut image = [0u8; 16];
     image[8] = (w % 256) as u8;
@@ -88,13 +74,21 @@ fn with_step(sum: u64, s: Stepped) -> u64 {
     h
 }
 
-fn with_pair(sum: u64, w: u16, d: u8, r: u8) -> u64 {
+fn with_status(sum: u64, w: u16, d: u8, r: u8, sreg: u8) -> u64 {
     let image = image_of(w);
-    let mut h = sum;
-    for k in 0..8usize {
-        h = with_step(h, step::step(&image, before(d, r, status(k))));
-    }
-    h
+    with_step(sum, step::step(&image, before(d, r, sreg)))
+}
+
+// Both C, both Z, and the other bits clear or set.
+fn with_pair(sum: u64, w: u16, d: u8, r: u8) -> u64 {
+    let a = with_status(sum, w, d, r, 0);
+    let b = with_status(a, w, d, r, 1);
+    let c = with_status(b, w, d, r, 2);
+    let e = with_status(c, w, d, r, 3);
+    let f = with_status(e, w, d, r, 252);
+    let g = with_status(f, w, d, r, 253);
+    let h = with_status(g, w, d, r, 254);
+    with_status(h, w, d, r, 255)
 }
 
 fn print_sum(name: &[u8], w: u16, sum: u64) {

@@ -1,5 +1,6 @@
 // Traces over `ldi r16, $0F`, `inc r16`, `rjmp pc-1`: whole, and cut into pieces.
 use crate::show;
+ghost use Prim.Native.Nat.{_<_, _≤_};
 
 fn print(name: &[u8], text: &[u8]) {
     show::text(name);
@@ -132,14 +133,22 @@ pub(crate) fn whole() {
     malformed();
 }
 
+// The end of a piece that begins at an offset below n.
+fn end_of(at: usize, size: usize, n: usize) -> usize
+    requires { ⌜ at < n ⌝ }
+    ensures { λ r. ⌜ (at < r) × (r ≤ n) ⌝ }
+{
+    if n - at <= size {
+        return n;
+    }
+    at + size + 1
+}
+
 fn in_pieces(text: &[u8], size: u8) {
     let mut t = replay::begin();
     let mut at = 0;
     while at < text.len() {
-        let mut end = at + 1 + (size as usize);
-        if text.len() < end {
-            end = text.len();
-        }
+        let end = end_of(at, size as usize, text.len());
         t = replay::feed(&[15, 224, 3, 149, 254, 207], &text[at..end], t);
         at = end;
     }

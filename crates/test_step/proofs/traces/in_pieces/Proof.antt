@@ -19,8 +19,7 @@ in-pieces-spec =
     μ-loop
     (λ c κs. search needs)
     (λ c. omega arith)
-    (λ c. search needs)
-    (λ c. search needs)
+    (λ c κs. search needs)
     (λ c. search needs)
     (λ c. search needs)
     (λ c. search needs)
