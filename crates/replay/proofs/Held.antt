@@ -2,21 +2,20 @@
 use mathlib.Core.Path.{_≡_, refl, sym, ap, ap₂, subst, _∙_}
 use mathlib.Core.Bool.{Bool, true, false}
 use mathlib.Core.List.{List, [], _∷_, _++_, append-assoc, append-nil}
-use Prim.Native.Nat.{ℕ, zero, suc, _+_, _≤_, _<_, _^_}
-use native.Mathlib.Nat.{mod-eq-of-lt}
+use Prim.Native.Nat.{ℕ, _+_, _≤_, _<_}
 use native.Mathlib.Numerals.{add-one}
 use native.Mathlib.Omega.{arith}
-use lib.Dec.{ltb, eqb}
+use lib.Dec.{eqb}
 use lib.ListN.{length, take, set, length-append, length-set}
 use lib.Seq.{take-all, take-suc-set}
-use borrow.Author.Tests.{eq-eqb, ne-eqb, eqb-true, eqb-false, lt-ltb, le-ltb}
+use borrow.Author.Tests.{ne-eqb, eqb-true, eqb-false, lt-ltb, le-ltb}
 use Rattle.manual.specs.Choice.{pick, both}
 use Rattle.manual.specs.Answers.{Answer, gives, refuses, badFrame}
 use Rattle.manual.specs.Spelt.{isDigit, allDigits, bytesSpelt}
 use Rattle.spell.proofs.Digits.{both-true}
 use Rattle.step.specs.declared.State.{State}
 use Rattle.replay.specs.Trace.{spelled, frameAt, malformed, heldAgainst, nextFrame}
-use Rattle.replay.specs.Stream.{Held, up, fresh, behind, ended, byteOf, onAnswer, turned, takes, framed}
+use Rattle.replay.specs.Stream.{Held, up, fresh, behind, ended, turned, takes, framed}
 use Rattle.replay.proofs.Parts.{not-long}
 use Rattle.replay.proofs.Turns.{byte-stays, frame-stays, frame-goes}
 

@@ -1,8 +1,8 @@
 -- What is left of a piece: its next line, where that stands whole in it, or its next byte.
-use mathlib.Core.Path.{_≡_, refl, sym, ap, _∙_}
+use mathlib.Core.Path.{_≡_, refl, ap, _∙_}
 use mathlib.Core.Bool.{Bool, true, false}
-use mathlib.Core.List.{List, [], _∷_, _++_}
-use Prim.Native.Nat.{ℕ, suc, _+_, _≤_, _<_}
+use mathlib.Core.List.{List, _∷_, _++_}
+use Prim.Native.Nat.{ℕ, _+_, _<_}
 use native.Mathlib.Numerals.{add-one}
 use native.Mathlib.Omega.{arith}
 use lib.Dec.{ltb, eqb}
@@ -10,7 +10,7 @@ use lib.ListN.{length, getD, take, drop, length-drop}
 use lib.Seq.{drop-cons, drop-drop, getD-drop, split-at}
 use borrow.Author.Tests.{eqb-true, ltb-true}
 use Rattle.manual.specs.Choice.{pick, both}
-use Rattle.manual.specs.Answers.{Answer, gives, badFrame}
+use Rattle.manual.specs.Answers.{gives, badFrame}
 use Rattle.step.specs.declared.State.{State}
 use Rattle.replay.specs.Trace.{frameAt}
 use Rattle.replay.specs.Stream.{Held, turned, takes, framed}

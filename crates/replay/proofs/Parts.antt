@@ -1,5 +1,5 @@
 -- A line's bytes as a frame, and a buffer that is filled.
-use mathlib.Core.Path.{_≡_, refl, sym, ap, _∙_}
+use mathlib.Core.Path.{_≡_, sym, ap, _∙_}
 use mathlib.Core.Bool.{true, false}
 use mathlib.Core.List.{List, _++_, append-nil}
 use Prim.Native.Nat.{ℕ, _+_, _*_, _≤_}
@@ -8,7 +8,7 @@ use lib.ListN.{length, getD, take, drop, drop-of-length-le}
 use borrow.Author.Tests.{eq-eqb, ne-eqb}
 use Rattle.manual.specs.Answers.{gives, badFrame}
 use Rattle.manual.specs.Spelt.{digitValue, allDigits, bytesSpelt}
-use Rattle.put.specs.Put.{Put, put}
+use Rattle.put.specs.Put.{Put}
 use Rattle.put.proofs.Puts.{put-first}
 use Rattle.spell.proofs.Spelt.{spelt-at, spelt-take, spelt-drop}
 use Rattle.replay.specs.Trace.{frameAt}

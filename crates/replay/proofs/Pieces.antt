@@ -2,18 +2,18 @@
 use mathlib.Core.Path.{_≡_, refl, sym, ap, _∙_}
 use mathlib.Core.Bool.{Bool, true, false}
 use mathlib.Core.List.{List, [], _∷_, _++_, append-assoc, append-nil}
-use Prim.Native.Nat.{ℕ, suc, _+_, _≤_, _<_, _^_}
+use Prim.Native.Nat.{ℕ, _+_, _<_, _^_}
 use native.Mathlib.Nat.{mod-eq-of-lt}
 use native.Mathlib.Omega.{arith}
 use lib.Dec.{ltb, eqb}
 use lib.ListN.{length, replicate, length-append, length-replicate}
-use borrow.Author.Tests.{eqb-true, eqb-false, ltb-true, ltb-false, ne-eqb}
+use borrow.Author.Tests.{eqb-true, ltb-true, ltb-false, ne-eqb}
 use Rattle.manual.specs.Choice.{pick}
 use Rattle.manual.specs.Answers.{Answer, gives, refuses}
 use Rattle.manual.specs.Frames.{inFront, pieces}
 use Rattle.step.specs.declared.State.{State}
 use Rattle.replay.specs.Trace.{frameAt, malformed, nextFrame, goesOn, follows, noFrame, replays}
-use Rattle.replay.specs.Stream.{Held, up, fresh, behind, ended, onAnswer, turned, takes, ends, begins, inPieces}
+use Rattle.replay.specs.Stream.{Held, up, fresh, behind, turned, takes, ends, begins, inPieces}
 use Rattle.replay.proofs.Parts.{not-long}
 use Rattle.replay.proofs.Held.{stays, Holds, holds, line-ends, at-lf, one-more, too-long}
 

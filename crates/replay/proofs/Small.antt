@@ -1,5 +1,4 @@
 -- The number that a replay answers is no larger than the trace is long.
-use mathlib.Core.Path.{_≡_, refl}
 use mathlib.Core.Bool.{Bool, true, false}
 use mathlib.Core.List.{List, [], _∷_}
 use Prim.Native.Nat.{ℕ, _+_, _≤_}
@@ -10,9 +9,8 @@ use Rattle.manual.specs.Choice.{pick}
 use Rattle.manual.specs.Answers.{Answer, gives, refuses}
 use Rattle.manual.specs.Frames.{inFront, pieces}
 use Rattle.step.specs.declared.State.{State}
-use Rattle.step.specs.declared.Stepped.{Stepped}
 use Rattle.step.specs.Step.{steps}
-use Rattle.replay.specs.Trace.{frameAt, malformed, differs, stops, stopNumber, sameState, onStep, heldAgainst, nextFrame, goesOn, follows, noFrame, replays}
+use Rattle.replay.specs.Trace.{frameAt, differs, stops, stopNumber, sameState, onStep, heldAgainst, nextFrame, goesOn, follows, noFrame, replays}
 
 abbrev pub numberIn : Answer ℕ → ℕ
 numberIn (gives n) = n

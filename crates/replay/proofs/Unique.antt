@@ -6,7 +6,6 @@ use lib.Dec.{eqb}
 use lib.ListN.{getD}
 use Rattle.manual.specs.Choice.{pick}
 use Rattle.manual.specs.Answers.{Answer, gives, refuses}
-use Rattle.step.specs.declared.State.{State}
 use Rattle.step.specs.declared.Stop.{Stop}
 use Rattle.step.specs.declared.Stop.the-variants as stop
 use Rattle.replay.specs.Trace.{replays}

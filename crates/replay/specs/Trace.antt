@@ -1,6 +1,6 @@
 -- A trace: lines of 72 digits, each a frame. What each frame steps to is held against the frame after it; the last is not stepped.
 use Prim.Native.Nat.{ℕ, _+_, _*_}
-use mathlib.Core.Bool.{Bool, true, false}
+use mathlib.Core.Bool.{Bool}
 use mathlib.Core.List.{List, [], _∷_}
 use lib.Dec.{eqb}
 use lib.ListN.{length, take, drop, getD, replicate}

@@ -1,6 +1,6 @@
 -- A step from an offset that is even and inside the image is what decoding there leads to; and where a place is below 0, it doesn't matter
 -- how far.
-use mathlib.Core.Path.{_≡_, refl, sym, ap, _∙_}
+use mathlib.Core.Path.{_≡_, refl}
 use mathlib.Core.Bool.{false}
 use mathlib.Core.List.{List}
 use Prim.Native.Nat.{ℕ, _-_, _%_, _<_}

@@ -1,7 +1,7 @@
 -- One step on an image of the car board, whose flag is false, from an offset, the registers r0 to r31 and SREG. A refused step gives back
 -- what it began with.
 use Prim.Native.Nat.{ℕ, _+_, _%_}
-use mathlib.Core.Bool.{Bool, false}
+use mathlib.Core.Bool.{false}
 use mathlib.Core.List.{List}
 use lib.Dec.{eqb}
 use lib.IntN.{ℤ, pos, negsuc, natAbs}

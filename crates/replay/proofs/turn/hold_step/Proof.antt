@@ -1,5 +1,5 @@
 use borrow.Author.Needs.{needs}
-use mathlib.Core.Path.{_≡_, refl, sym, ap, _∙_}
+use mathlib.Core.Path.{refl, sym, ap, _∙_}
 use Rattle.step.specs.declared.Stepped.{Stepped}
 use Rattle.replay.specs.Trace.{onStep}
 use Rattle.replay.specs.Stream.{behind}
