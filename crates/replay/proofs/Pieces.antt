@@ -1,7 +1,7 @@
 -- However a trace is cut into pieces, what `feed` and `finish` answer to them is what the definition says of the whole trace.
 use mathlib.Core.Path.{_≡_, refl, sym, ap, _∙_}
 use mathlib.Core.Bool.{Bool, true, false}
-use mathlib.Core.List.{List, [], _∷_, _++_, append-assoc, append-nil}
+use mathlib.Core.List.{List, [], _∷_, _++_, append-nil}
 use Prim.Native.Nat.{ℕ, _+_, _<_, _^_}
 use native.Mathlib.Nat.{mod-eq-of-lt}
 use native.Mathlib.Omega.{arith}
@@ -11,6 +11,7 @@ use borrow.Author.Tests.{eqb-true, ltb-true, ltb-false, ne-eqb}
 use Rattle.manual.specs.Choice.{pick}
 use Rattle.manual.specs.Answers.{Answer, gives, refuses}
 use Rattle.manual.specs.Frames.{inFront, pieces}
+use Rattle.spell.proofs.Front.{joined, front, front-none, front-byte}
 use Rattle.step.specs.declared.State.{State}
 use Rattle.replay.specs.Trace.{frameAt, malformed, nextFrame, goesOn, follows, noFrame, replays}
 use Rattle.replay.specs.Stream.{Held, up, fresh, behind, turned, takes, ends, begins, inPieces}
@@ -18,10 +19,6 @@ use Rattle.replay.proofs.Parts.{not-long}
 use Rattle.replay.proofs.Held.{stays, Holds, holds, line-ends, at-lf, one-more, too-long}
 
 -- ---- pieces joined
-
-abbrev pub joined : List (List ℕ) → List ℕ
-joined [] = []
-joined (c ∷ cs) = c ++ joined cs
 
 takes-join : (image s : List ℕ) (t : Held) (r : List ℕ) → takes image t (s ++ r) ≡ takes image (takes image t s) r
 unfolding takes
@@ -33,21 +30,7 @@ unfolding inPieces takes
 pieces-run image [] t = refl
 pieces-run image (c ∷ cs) t = pieces-run image cs (takes image t c) ∙ ap (ends image) (sym (takes-join image c t (joined cs)))
 
--- ---- the line so far in front of the lines of what is left
-
-abbrev front : List ℕ → List (List ℕ) → List (List ℕ)
-front [] [] = []
-front (x ∷ q) [] = (x ∷ q) ∷ []
-front q (p ∷ ps) = (q ++ p) ∷ ps
-
-front-none : (ps : List (List ℕ)) → front [] ps ≡ ps
-front-none [] = refl
-front-none (p ∷ ps) = refl
-
-front-byte : (q : List ℕ) (b : ℕ) (ps : List (List ℕ)) → front (q ++ (b ∷ [])) ps ≡ front q (inFront b ps)
-front-byte [] b [] = refl
-front-byte (x ∷ q) b [] = refl
-front-byte q b (p ∷ ps) = ap (λ l. l ∷ ps) (append-assoc q (b ∷ []) p)
+-- ---- from the line so far on
 
 module _ (image : List ℕ) where
   -- a line that is too long stops the replay
@@ -79,8 +62,6 @@ module _ (image : List ℕ) where
   at-end n last (x ∷ q) t (holds {l} k h e) i =
       rw (ends, ne-eqb (length (x ∷ q)) 0 (λ z. omega arith)) (ap (λ (u : Held). u .answer) (line-ends image n last (holds {l = l} k h e))
       ∙ rw (next n i) (last-line n last (nextFrame image n (n + 1) last (frameAt (x ∷ q)))))
-
-  -- ---- from the line so far on
 
   abbrev Runs : List ℕ → Type 0
   Runs s =
