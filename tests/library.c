@@ -28,6 +28,7 @@ int main(void) {
     say("listing of nothing", avr_list(NULL, 0, 0, NULL, 0));
     say("reverse reading of nothing", avr_reverse(NULL, 0, 0, NULL, 0));
     say("frame of nothing", avr_frame(NULL, 0, NULL, 0));
+    say("replay of nothing", avr_replay(NULL, 0, NULL, 0));
     say("nop into nothing", avr_text(image, 2, 0, NULL, 0));
     return 0;
 }
