@@ -18,6 +18,8 @@
  *  10  it begins before the end of the last one       value: the line's number
  *  11  it goes beyond 65,536 or the lent image        value: the line's number
  *  12  there is no end line
+ *  13  no image of at most 8,388,608 bytes has that listing
+ *  14  the lent image is too short                   value: bytes needed
  *  20  a frame of a trace is not what the frame before it steps to
  *                                                     value: the frame's number, from 1
  *  21  a frame's offset is odd or outside the image   value: the frame's number
@@ -79,6 +81,10 @@ uint64_t avr_write_hex(const uint8_t *image, size_t image_length, uint8_t *out, 
  * Stepped are nop ldi mov add adc sub sbc cp cpc subi sbci cpi and andi or ori eor inc dec rjmp and the conditional branches. A trace
  * of less than 2^32 lines at a time: a larger number would read as a refusal. */
 uint64_t avr_replay(const uint8_t *image, size_t image_length, const uint8_t *trace, size_t trace_length);
+
+/* The image that a listing is of: what avr_list writes for it, then a line `end`, a blank and the number of its bytes, each line ended by
+ * LF. No two images have one such text. Refusals 13, then 14. */
+uint64_t avr_read_listing(const uint8_t *text, size_t text_length, uint8_t flag, uint8_t *image, size_t image_length);
 
 /* ---- Coverage maps: 8,192 bytes, program word w in bit w mod 8 of byte w div 8. A refused call changes no bit; refusal 40 comes first. */
 

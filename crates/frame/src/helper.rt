@@ -1,9 +1,8 @@
 // A line as a frame, and its answer put into a lent buffer: for this project's own crates.
 use avr::Framed;
+use listing::helper::put_end;
 use listing::helper::put_listing;
-use put::put_byte;
 use put::put_bytes;
-use put::put_small;
 use spell::all_digits;
 use spell::helper::pair;
 use spell::helper::put_spelt;
@@ -34,23 +33,13 @@ pub(crate) fn is_frame(line: &[u8]) -> bool
     pair(line, 0) <= 1
 }
 
-// How many bytes the image of a frame has.
-fn image_size(image: &[u8]) -> u8
-    requires { ⌜ length (now image) ≤ 64 ⌝ }
-    ensures { λ r. ⌜ r ≡ length (now (image .entry)) ⌝ }
-{
-    image.len() as u8
-}
-
 // A frame's listing and its end line.
 pub(crate) fn put_frame(image: &[u8], flag: bool, out: &mut [u8], o: usize) -> usize
     requires { ⌜ (o + 1200 ≤ length (now out)) × (length (now image) ≤ 64) ⌝ }
     ensures { λ r. ⌜ Put (now (out .entry)) o (frameText (gives (record { flag = flag; image = now (image .entry) }))) (now (out .exit)) r ⌝ }
 {
     let p = put_listing(image, flag, &mut *out, o);
-    let q = put_bytes(&mut *out, p, b"end ");
-    let t = put_small(&mut *out, q, image_size(image));
-    put_byte(&mut *out, t, 10)
+    put_end(&mut *out, p, image.len())
 }
 
 // A line as a frame: its image at the start of a lent buffer. For refusal 6 nothing is written.

@@ -26,7 +26,7 @@ use Rattle.listing.proofs.Short.{left-short}
 -- ---- the text
 
 -- behind a part's lines the image goes on
-goes-on : (flag : Bool) (o : ℕ) (part more : List ℕ)
+pub goes-on : (flag : Bool) (o : ℕ) (part more : List ℕ)
     → partText flag true o part ++ printed (placed (o + total (partLines flag true part)) (linesFrom flag false (drop (total (partLines flag true part)) (part ++ more))))
     ≡ printed (placed o (linesFrom flag false (part ++ more)))
 unfolding partLines

@@ -8,6 +8,7 @@ ghost use Rattle.avr.specs.declared.Line.the-variants as line;
 ghost use Rattle.manual.specs.Text.{chars, padded};
 ghost use Rattle.manual.specs.Lines.{limit, lineOf, lineAt, linesFrom};
 ghost use Rattle.manual.specs.Listing.{placed, printed, listing};
+ghost use Rattle.manual.specs.Archive.{endLine};
 ghost use Rattle.decode.specs.Found.{ofFound, Known};
 ghost use Rattle.text.specs.Names.{nameBytes, nameLengths};
 ghost use Rattle.walk.specs.Theorems.{total};
@@ -22,6 +23,7 @@ use decode::helper::form_bytes;
 use put::put_both;
 use put::put_byte;
 use put::put_bytes;
+use put::put_count;
 use put::put_hex2;
 use put::put_hex4;
 use put::put_hex6;
@@ -224,7 +226,7 @@ fn least(a: usize, b: usize) -> usize
 
 // The lines of an image that stands at an offset: all of them, or where more of it follows those in front of the first `.byte` line.
 // 18 bytes of room for each byte are enough.
-pub(crate) fn put_part(
+pub fn put_part(
     image: &[u8],
     base: usize,
     more: bool,
@@ -253,6 +255,16 @@ pub fn put_listing(image: &[u8], flag: bool, out: &mut [u8], o: usize) -> usize
 {
     let w = put_part(image, 0, false, flag, &mut *out, o);
     w.next
+}
+
+// The end line of an archived text, with the number of an image's bytes.
+pub fn put_end(out: &mut [u8], o: usize, n: usize) -> usize
+    requires { ⌜ (o + 13 ≤ length (now out)) × (n ≤ limit) ⌝ }
+    ensures { λ r. ⌜ Put (now (out .entry)) o (endLine n) (now (out .exit)) r × (r ≤ o + 13) ⌝ }
+{
+    let p = put_bytes(&mut *out, o, b"end ");
+    let q = put_count(&mut *out, p, n as u32);
+    put_byte(&mut *out, q, 10)
 }
 
 // The lines in front of the first `.byte` line by way of an array, 256 bytes of the image at a time, into a buffer that may be too short.

@@ -8,8 +8,8 @@ use lib.ListN.{length, getD, drop}
 use Rattle.manual.specs.Choice.{pick, both}
 use Rattle.manual.specs.Answers.{Answer, gives, refuses, badFrame}
 use Rattle.manual.specs.Room.{filled}
-use Rattle.manual.specs.Text.{chars, decimal}
-use Rattle.manual.specs.Listing.{listing}
+use Rattle.manual.specs.Text.{chars}
+use Rattle.manual.specs.Archive.{archived}
 use Rattle.manual.specs.Spelt.{allDigits, bytesSpelt}
 
 -- ---- a line
@@ -39,9 +39,9 @@ abbrev pub imageLeft : Answer Frame → List ℕ → List ℕ
 imageLeft (gives f) buffer = filled (f .image) buffer
 imageLeft (refuses n vs) buffer = buffer
 
--- a frame's listing, then its end line with the number of its bytes; for refusal 6 `bad frame`, and there is no other
+-- the archived text of a frame's image; for refusal 6 `bad frame`, and there is no other
 abbrev pub frameText : Answer Frame → List ℕ
-frameText (gives f) = listing (f .flag) (f .image) ++ (chars "end " ++ (decimal (length (f .image)) ++ (10 ∷ [])))
+frameText (gives f) = archived (f .flag) (f .image)
 frameText (refuses n vs) = pick (eqb n 6) (chars "bad frame" ++ (10 ∷ [])) []
 
 -- what is printed for a line

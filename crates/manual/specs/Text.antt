@@ -43,9 +43,10 @@ unfoldable pub padded : ℕ → ℕ → ℕ → List ℕ
 padded b zero n = []
 padded b (suc k) n = padded b k (n / b) ++ (digit (n % b) ∷ [])
 
--- every number of 16 bits has at most 5 decimal digits, and every one of 32 bits at most 8 hexadecimal ones
+-- no number that is printed in decimal has more than 7 digits, the byte count of an image of 8,388,608 bytes too, and every one of 32
+-- bits has at most 8 hexadecimal ones
 abbrev pub decimal : ℕ → List ℕ
-decimal n = digits 10 5 n
+decimal n = digits 10 7 n
 
 abbrev pub hexadecimal : ℕ → List ℕ
 hexadecimal n = digits 16 8 n

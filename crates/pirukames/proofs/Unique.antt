@@ -1,5 +1,5 @@
--- Two answers that a statement allows are equal, and so is what they leave in the buffer. All statements but one are equations; that
--- of avr_reverse names a list, of which there is one.
+-- Two answers that a statement allows are equal, and so is what they leave in the buffer. All statements but two are equations; that of
+-- avr_reverse names a list, and that of avr_read_listing an answer, of which there is one.
 use mathlib.Core.Path.{_≡_, sym, ap, _∙_}
 use mathlib.Core.Bool.{Bool}
 use mathlib.Core.List.{List}
@@ -14,6 +14,8 @@ use Rattle.manual.specs.Reverse.{Reverse}
 use Rattle.hex.specs.Hex.{reads, sizeOf, laid}
 use Rattle.hex.specs.HexText.{writes, left}
 use Rattle.replay.specs.Trace.{replays}
+use Rattle.archive.specs.Archive.{Lands}
+use Rattle.archive.proofs.Unique.{one-landing}
 use Rattle.reverse.proofs.Unique.{one-reading}
 use Rattle.stack.specs.Stack.{measures}
 use Rattle.pirukames.specs.Library.{coded, delivers, delivered, texts, recodes, strung}
@@ -46,6 +48,12 @@ module _ (flag : Bool) (bytes buffer : List ℕ) (a b : ℕ) (d e : List ℕ) wh
       let k = sym (one-reading flag bytes l m (p .0) (q .0)) in
       both-unique a b d e (p .1, p .2)
       (q .1 ∙ ap (λ (x : List (List ℕ)). coded (written (strung x) buffer)) k, q .2 ∙ ap (λ (x : List (List ℕ)). filled (strung x) buffer) k)
+
+pub avr-read-listing-unique : (flag : Bool) (text lent : List ℕ) (a b : ℕ) (d e : List ℕ) (x y : Answer ℕ)
+    → Lands flag text lent x d × (a ≡ coded x) → Lands flag text lent y e × (b ≡ coded y) → (a ≡ b) × (d ≡ e)
+avr-read-listing-unique flag text lent a b d e x y p q =
+    let k = one-landing flag text lent x y d e (p .0) (q .0) in
+    (p .1 ∙ ap coded (k .0) ∙ sym (q .1), k .1)
 
 module _ (given lent : List ℕ) (a b : ℕ) (d e : List ℕ) where
   pub avr-read-hex-unique : (a ≡ coded (sizeOf (reads (length lent) given))) × (d ≡ laid (reads (length lent) given) lent)

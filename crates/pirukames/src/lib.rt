@@ -12,6 +12,7 @@ ghost use Rattle.manual.specs.Lists.{lists, listLeft};
 ghost use Rattle.manual.specs.Reverse.{Reverse};
 ghost use Rattle.manual.specs.Room.{written, filled};
 
+mod archived;
 mod coverage;
 mod intel_hex;
 mod routine;

@@ -4,7 +4,7 @@ ghost use mathlib.Core.Path.{_≡_};
 ghost use mathlib.Core.List.{[], _∷_, _++_};
 ghost use Prim.Native.Nat.{_+_, _<_, _≤_};
 ghost use lib.ListN.{length, drop};
-ghost use Rattle.manual.specs.Text.{digit, digits, padded};
+ghost use Rattle.manual.specs.Text.{digit, digits, padded, decimal};
 ghost use Rattle.put.specs.Put.{Put};
 
 // A digit, upper case past 9: without a branch, since digits of code are as good as random.
@@ -86,7 +86,7 @@ fn put_two(out: &mut [u8], o: usize, n: u8) -> usize
 // A number below 100 in decimal, without leading zeros.
 pub fn put_small(out: &mut [u8], o: usize, n: u8) -> usize
     requires { ⌜ (o + 2 ≤ length (now out)) × (n < 100) ⌝ }
-    ensures { λ r. ⌜ Put (now (out .entry)) o (digits 10 5 n) (now (out .exit)) r × (r ≤ o + 2) ⌝ }
+    ensures { λ r. ⌜ Put (now (out .entry)) o (decimal n) (now (out .exit)) r × (r ≤ o + 2) ⌝ }
 {
     if n < 10 {
         return put_byte(&mut *out, o, 48 + n);
@@ -97,13 +97,26 @@ pub fn put_small(out: &mut [u8], o: usize, n: u8) -> usize
 // A number below 10,000 in decimal, without leading zeros.
 pub fn put_decimal(out: &mut [u8], o: usize, n: u16) -> usize
     requires { ⌜ (o + 4 ≤ length (now out)) × (n < 10000) ⌝ }
-    ensures { λ r. ⌜ Put (now (out .entry)) o (digits 10 5 n) (now (out .exit)) r × (r ≤ o + 4) ⌝ }
+    ensures { λ r. ⌜ Put (now (out .entry)) o (decimal n) (now (out .exit)) r × (r ≤ o + 4) ⌝ }
 {
     if n < 100 {
         return put_small(&mut *out, o, n as u8);
     }
     let p = put_small(&mut *out, o, (n / 100) as u8);
     put_two(&mut *out, p, (n % 100) as u8)
+}
+
+// A number below 10,000,000 in decimal, without leading zeros.
+pub fn put_count(out: &mut [u8], o: usize, n: u32) -> usize
+    requires { ⌜ (o + 8 ≤ length (now out)) × (n < 10000000) ⌝ }
+    ensures { λ r. ⌜ Put (now (out .entry)) o (decimal n) (now (out .exit)) r × (r ≤ o + 8) ⌝ }
+{
+    if n < 10000 {
+        return put_decimal(&mut *out, o, n as u16);
+    }
+    let p = put_decimal(&mut *out, o, (n / 10000) as u16);
+    let q = put_two(&mut *out, p, (n / 100 % 100) as u8);
+    put_two(&mut *out, q, (n % 100) as u8)
 }
 
 // A byte in one or two hexadecimal digits.

@@ -24,14 +24,11 @@ use Rattle.encode.proofs.Truth.{both-true, not-true, either-use}
 use Rattle.read.specs.Operands.{operandAs}
 use Rattle.read.specs.Line.{numberAs, opcodeFrom, classFor, lineAs}
 use Rattle.read.proofs.Operands.{operand-back}
+use Rattle.read.proofs.Lacking.{lacking, lacks}
 use Rattle.read.proofs.Spelled.{spells, spelled}
 use Rattle.read.proofs.Parts.{parts}
 
 -- ---- tests of a row, with each SREG bit
-
-abbrev lacking : ℕ → List ℕ → Bool
-lacking c [] = true
-lacking c (x ∷ xs) = both (not (eqb x c)) (lacking c xs)
 
 abbrev empty : {L : Type 0} → Arg L → Bool
 empty arg.nothing = true
@@ -98,10 +95,6 @@ module _ (i : ℕ) (h : i < 103) where
   order-test = constant false i h orderTest true refl
 
 -- ---- what the tests say
-
-lacks : (c : ℕ) (l : List ℕ) → lacking c l ≡ true → Lacks c l
-lacks c [] t = tt
-lacks c (x ∷ xs) t = let p = both-true (not (eqb x c)) (lacking c xs) t in (not-true (eqb x c) (p .0), lacks c xs (p .1))
 
 empty-is : (a : Arg Char) (cs : List ℕ) (w e : ℕ) → isNothing (argument a cs w e) ≡ empty a
 empty-is arg.nothing cs w e = refl

@@ -1,4 +1,4 @@
--- An operand's text, read, is the operand, and has no comma in it.
+-- An operand's text, read, is the operand.
 use mathlib.Core.Path.{_≡_, refl, ap}
 use mathlib.Core.Bool.{Bool, true, false}
 use mathlib.Core.List.{List, [], _∷_, _++_}
@@ -44,7 +44,7 @@ Spelled m (operand.BitIndex n) = n < 10
 -- ---- numbers
 
 dec-back : (n : ℕ) → n < 100000 → valueFrom 10 0 (decimal n) ≡ n
-dec-back n h = digits-back 10 (omega arith) (omega arith) 5 n h (omega arith)
+dec-back n h = digits-back 10 (omega arith) (omega arith) 7 n (omega arith) (omega arith)
 
 some-digit : (b k n : ℕ) → 1 ≤ length (digits b (suc k) n)
 unfolding digits
@@ -59,7 +59,7 @@ some-digit b k n = go (ltb n b)
 register-back : (n : ℕ) → n < 256 → registerAs (decimal n) ≡ register.Register n
 unfolding registerAs
 register-back n h =
-    rw (up-all 58 (decimal n) (decimal-lacks 58 (omega arith) 5 n), le-ltb (length (decimal n)) (length (decimal n)) (omega arith), dec-back n (omega arith))
+    rw (up-all 58 (decimal n) (decimal-lacks 58 (omega arith) 7 n), le-ltb (length (decimal n)) (length (decimal n)) (omega arith), dec-back n (omega arith))
     (ap register.Register (mod-eq-of-lt h))
 
 pair-back : (n : ℕ) → n < 256 → registerAs (decimal (n * 2 + 1) ++ (58 ∷ 114 ∷ decimal (n * 2))) ≡ register.RegisterPair n
@@ -67,7 +67,7 @@ unfolding registerAs
 pair-back n h =
     let a = decimal (n * 2 + 1) in
     let b : List ℕ = 114 ∷ decimal (n * 2) in
-    let l = decimal-lacks 58 (omega arith) 5 (n * 2 + 1) in
+    let l = decimal-lacks 58 (omega arith) 7 (n * 2 + 1) in
     let s : length a < length (a ++ (58 ∷ b)) = omega (arith, length-append a (58 ∷ b)) in
     let e : n * 2 / 2 % 256 ≡ n = omega arith in
     rw (up-seam 58 a b l, lt-ltb (length a) (length (a ++ (58 ∷ b))) s, past-seam 58 a b l, dec-back (n * 2) (omega arith)) (ap register.RegisterPair e)
@@ -75,7 +75,7 @@ pair-back n h =
 displaced-back : (q : ℕ) → q < 256 → changeAs (43 ∷ decimal q) ≡ modifier.Displacement q
 unfolding changeAs
 displaced-back q h =
-    let s = some-digit 10 4 q in
+    let s = some-digit 10 6 q in
     rw (le-ltb (suc (length (decimal q))) 1 (omega arith), le-ltb (suc (length (decimal q))) 2 (omega arith), dec-back q (omega arith))
     (ap modifier.Displacement (mod-eq-of-lt h))
 
@@ -120,36 +120,3 @@ operand-back m (operand.AddrProgram n) h =
 operand-back m (operand.AddrData n) h = rw (h .0, padded-back 16 (omega arith) (omega arith) 4 n (h .1) (omega (arith, h .1))) (ap operand.AddrData (mod-eq-of-lt (h .1)))
 operand-back m (operand.AddrIO n) h = rw (h .0, padded-back 16 (omega arith) (omega arith) 2 n (h .1) (omega (arith, h .1))) (ap operand.AddrIO (mod-eq-of-lt (h .1)))
 operand-back m (operand.BitIndex n) h = bit-back m n h
-
--- ---- no comma
-
-module _ where
-  lacks-decimal : (n : ℕ) → Lacks 44 (decimal n)
-  lacks-decimal n = digits-lack 44 (omega arith) 10 5 n
-
-  pub no-comma : (o : Operand) → Lacks 44 (operandText o)
-  unfolding operandText registerText immediateText addressText relativeText
-  no-comma operand.Nothing = tt
-  no-comma (operand.Register (register.Register n)) = (refl, lacks-decimal n)
-  no-comma (operand.Register (register.RegisterPair n)) =
-      (refl, lacks-both 44 (decimal (n * 2 + 1)) (58 ∷ 114 ∷ decimal (n * 2)) (lacks-decimal (n * 2 + 1)) (refl, (refl, lacks-decimal (n * 2))))
-  no-comma (operand.Register (register.IndexRegister X modifier.Unchanged)) = (refl, tt)
-  no-comma (operand.Register (register.IndexRegister Y modifier.Unchanged)) = (refl, tt)
-  no-comma (operand.Register (register.IndexRegister Z modifier.Unchanged)) = (refl, tt)
-  no-comma (operand.Register (register.IndexRegister X modifier.PostIncrement)) = (refl, (refl, tt))
-  no-comma (operand.Register (register.IndexRegister Y modifier.PostIncrement)) = (refl, (refl, tt))
-  no-comma (operand.Register (register.IndexRegister Z modifier.PostIncrement)) = (refl, (refl, tt))
-  no-comma (operand.Register (register.IndexRegister X modifier.PreDecrement)) = (refl, (refl, tt))
-  no-comma (operand.Register (register.IndexRegister Y modifier.PreDecrement)) = (refl, (refl, tt))
-  no-comma (operand.Register (register.IndexRegister Z modifier.PreDecrement)) = (refl, (refl, tt))
-  no-comma (operand.Register (register.IndexRegister X (modifier.Displacement q))) = (refl, (refl, lacks-decimal q))
-  no-comma (operand.Register (register.IndexRegister Y (modifier.Displacement q))) = (refl, (refl, lacks-decimal q))
-  no-comma (operand.Register (register.IndexRegister Z (modifier.Displacement q))) = (refl, (refl, lacks-decimal q))
-  no-comma (operand.ImmediateU8 n) = (refl, padded-lack 44 (omega arith) 16 2 n)
-  no-comma (operand.AddrPCRelative (pos zero)) = (refl, (refl, tt))
-  no-comma (operand.AddrPCRelative (pos (suc n))) = (refl, (refl, (refl, lacks-decimal (suc n))))
-  no-comma (operand.AddrPCRelative (negsuc n)) = (refl, (refl, (refl, lacks-decimal (suc n))))
-  no-comma (operand.AddrProgram n) = (refl, digits-lack 44 (omega arith) 16 8 n)
-  no-comma (operand.AddrData n) = (refl, padded-lack 44 (omega arith) 16 4 n)
-  no-comma (operand.AddrIO n) = (refl, padded-lack 44 (omega arith) 16 2 n)
-  no-comma (operand.BitIndex n) = lacks-decimal n

@@ -10,7 +10,7 @@ use Rattle.manual.specs.Choice.{pick}
 use Rattle.manual.specs.Text.{operandText, isNothing, led}
 use Rattle.cut.specs.Cut.{upTo, past}
 use Rattle.cut.proofs.Parts.{Lacks, up-seam, past-seam, up-all, past-all}
-use Rattle.read.proofs.Operands.{no-comma}
+use Rattle.read.proofs.Lacking.{no-comma}
 
 -- the mnemonic m and the texts a and b of the operands, as a line is taken apart
 pub record Parts (m a b line : List ℕ) : Type 0 where

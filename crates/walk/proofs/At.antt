@@ -27,7 +27,7 @@ part-is image at = take-all (length image - at) (drop at image) (omega (arith, l
 pub first-left : (image : List ℕ) (at : ℕ) → getD (drop at image) 0 0 ≡ getD image at 0
 first-left image at = getD-drop at image 0 0 ∙ ap (λ (n : ℕ). getD image n 0) (add-zero at)
 
-unroll-left : (flag tail : Bool) (bs : List ℕ) → 0 < length bs
+pub unroll-left : (flag tail : Bool) (bs : List ℕ) → 0 < length bs
     → linesFrom flag tail bs ≡ lineHere flag tail bs ∷ linesFrom flag (tailAfter (lineHere flag tail bs) tail) (drop (lengthOf (lineHere flag tail bs)) bs)
 unroll-left flag tail [] h = absurd (omega arith)
 unroll-left flag tail (b ∷ bs) h = unroll flag tail b bs

@@ -29,7 +29,7 @@ head-join flag b bs more n =
     (behind flag (b ∷ bs) more
     (cases flag (b ∷ bs) (λ a. isByte (lineOf a b) ≡ false → isShort a ≡ false) (λ x w e. refl) (λ two e. refl) (λ k h e. absurd (true≢false e)) n))
 
-no-tail : (l : Line) → isByte l ≡ false → tailAfter l false ≡ false
+pub no-tail : (l : Line) → isByte l ≡ false → tailAfter l false ≡ false
 no-tail l e = rw e
 
 -- ---- the lines

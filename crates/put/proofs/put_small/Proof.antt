@@ -18,10 +18,10 @@ put-small-spec =
     (λ c. search needs)
     (λ c.
     let p = c .before .before .put-byte .ensures in
-    let e = digits-one 10 (lit< tt) 4 (c .before .before .before .before .before .before .args .n) (c .before .before .before .before .if1 .taken) in
+    let e = digits-one 10 (lit< tt) 6 (c .before .before .before .before .before .before .args .n) (c .before .before .before .before .if1 .taken) in
     (rw (e, digit-low (c .before .before .before .before .before .before .args .n) (c .before .before .before .before .if1 .taken)) p, omega (arith, p .next)))
     (λ c κs. search needs)
     (λ c. search needs)
     (λ c.
     let p = c .before .before .put-two .ensures in
-    (rw (digits-two 10 (lit< tt) 3 (c .before .before .before .before .before .before .args .n) (c .before .before .before .before .if1 .left) (omega arith)) p, omega (arith, p .next))))
+    (rw (digits-two 10 (lit< tt) 5 (c .before .before .before .before .before .before .args .n) (c .before .before .before .before .if1 .left) (omega arith)) p, omega (arith, p .next))))

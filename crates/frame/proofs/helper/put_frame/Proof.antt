@@ -2,57 +2,26 @@
 use denote.Ref.{now}
 use borrow.Author.Needs.{needs}
 use native.Mathlib.Omega.{arith}
-use Rattle.put.proofs.Puts.{then}
+use Rattle.manual.specs.Archive.{archived}
+use Rattle.put.proofs.Puts.{then, length-kept}
 use Rattle.listing.proofs.Short.{listing-short}
 use Rattle.frame.proofs.helper.put_frame.Statement.{statement}
 use Rattle.frame.proofs.helper.put_frame.Tie as tie
 
-put-bytes-requires : tie.Need-put-bytes-requires
-put-bytes-requires c κs =
-    let after-put-listing = c .before .before .before .before in
+put-end-requires : tie.Need-put-end-requires
+put-end-requires c κs =
+    let after-put-listing = c .before .before .before in
     let after-shared-slice-known = after-put-listing .before .before .before in
     let s = after-shared-slice-known .before in
     let h = listing-short (s .args .flag) (now (s .args .image)) (λ k. omega (arith, after-shared-slice-known .shared-slice-known .given k)) (omega arith) in
-    omega (arith, after-put-listing .put-listing .ensures .next)
-
-put-small-requires : tie.Need-put-small-requires
-put-small-requires c κs =
-    let after-put-bytes = c .before .before .before .before in
-    let after-put-listing = after-put-bytes .before .before .before .before .before in
-    let after-shared-slice-known = after-put-listing .before .before .before in
-    let s = after-shared-slice-known .before in
-    let h = listing-short (s .args .flag) (now (s .args .image)) (λ k. omega (arith, after-shared-slice-known .shared-slice-known .given k)) (omega arith) in
-    (omega (arith, after-put-listing .put-listing .ensures .next, after-put-bytes .put-bytes .ensures .next), omega arith)
-
-put-byte-requires : tie.Need-put-byte-requires
-put-byte-requires c κs =
-    let after-put-small = c .before .before .before in
-    let after-put-bytes = after-put-small .before .before .before .before .before in
-    let after-put-listing = after-put-bytes .before .before .before .before .before in
-    let after-shared-slice-known = after-put-listing .before .before .before in
-    let s = after-shared-slice-known .before in
-    let h = listing-short (s .args .flag) (now (s .args .image)) (λ k. omega (arith, after-shared-slice-known .shared-slice-known .given k)) (omega arith) in
-    omega (arith, after-put-listing .put-listing .ensures .next, after-put-bytes .put-bytes .ensures .next, after-put-small .put-small .ensures .1)
+    (omega (arith, after-put-listing .put-listing .ensures .next, length-kept (after-put-listing .put-listing .ensures)), omega arith)
 
 returns : tie.Need-returns
+unfolding archived
 returns c =
-    let after-put-byte = c .before .before in
-    let after-put-small = after-put-byte .before .before .before .before in
-    let after-image-size = after-put-small .before in
-    let after-put-bytes = after-image-size .before .before .before .before in
-    let after-put-listing = after-put-bytes .before .before .before .before .before in
-    then (after-put-listing .put-listing .ensures)
-    (then (after-put-bytes .put-bytes .ensures) (then (rw (after-image-size .image-size .ensures) at (after-put-small .put-small .ensures .0)) (after-put-byte .put-byte .ensures)))
+    let after-put-end = c .before .before in
+    let after-put-listing = after-put-end .before .before .before .before in
+    then (after-put-listing .put-listing .ensures) (after-put-end .put-end .ensures .0)
 
 pub put-frame-spec : {M : Type 1} → statement M
-put-frame-spec =
-    tie.close
-    (tie.spec
-    (λ c κs. search needs)
-    (λ c. search needs)
-    put-bytes-requires
-    (λ c κs. search needs)
-    put-small-requires
-    put-byte-requires
-    (λ c. search needs)
-    returns)
+put-frame-spec = tie.close (tie.spec (λ c κs. search needs) put-end-requires (λ c. search needs) returns)
