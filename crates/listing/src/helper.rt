@@ -16,7 +16,6 @@ ghost use Rattle.listing.specs.Lent.{Lent, Wrote, Fitted};
 ghost use Rattle.listing.specs.Parts.{wholes, begunBy, tailText, partLines};
 use decode::helper::Found;
 use decode::helper::find;
-use decode::helper::form_bytes;
 use put::put_both;
 use put::put_byte;
 use put::put_bytes;
@@ -86,14 +85,12 @@ fn put_found(
             form,
             word,
             extra,
+            length,
         } => {
             let p = put_head(&mut *out, o, at);
             let q = put_row(names, lengths, row, form, word, extra, &mut *out, p);
             let next = put_byte(&mut *out, q, 10);
-            Walked {
-                length: form_bytes(form) as usize,
-                next,
-            }
+            Walked { length, next }
         }
         Found::InvalidOpcode(w) => {
             let next = put_word(&mut *out, o, at, w);

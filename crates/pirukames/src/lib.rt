@@ -54,6 +54,7 @@ pub extern "C" fn avr_text(bytes: &[u8], flag: u8, out: &mut [u8]) -> u64
             form,
             word,
             extra,
+            length: _,
         } => {
             let mut line = [0u8; 21];
             let n = text::put_row(&NAMES, &LENGTHS, row, form, word, extra, &mut line, 0);

@@ -32,6 +32,7 @@ fn bytes_print(bytes: &[u8], flag: bool, line: &[u8]) -> bool
             form,
             word,
             extra,
+            length: _,
         } => row_prints(row, form, word, extra, line),
         Found::InvalidOpcode(_) => false,
         Found::Short(_) => false,
