@@ -10,6 +10,9 @@ use Rattle.avr.specs.declared.Line.{Line}
 use Rattle.avr.specs.declared.Place.{Place}
 use Rattle.manual.specs.Answers.{ofBegun}
 use Rattle.manual.specs.Lines.{begins, lineAt, placeAfter, countBefore}
+use Rattle.walk.specs.declared.Counts.{Counts}
+use Rattle.walk.specs.declared.Passed.{Passed}
+use Rattle.walk.specs.Counts.{linesIn, passedAt}
 
 pub begun-injective : (a b : Begun) → ofBegun a ≡ ofBegun b → a ≡ b
 begun-injective begun.Ready begun.Ready e = refl
@@ -30,3 +33,9 @@ module _ (image : List ℕ) where
 
     pub count-before-unique : (a b : ℕ) → a ≡ countBefore flag image at → b ≡ countBefore flag image at → a ≡ b
     count-before-unique = one-answer
+
+  pub pass-unique : (flag : Bool) (place : Place) (counts : Counts) (a b : Passed) → a ≡ passedAt flag image place counts → b ≡ passedAt flag image place counts → a ≡ b
+  pass-unique flag place counts = one-answer
+
+pub lines-in-unique : (c : Counts) (a b : ℕ) → a ≡ linesIn c → b ≡ linesIn c → a ≡ b
+lines-in-unique c = one-answer
