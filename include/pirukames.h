@@ -17,6 +17,14 @@
  *  10  it begins before the end of the last one       value: the line's number
  *  11  it goes beyond 65,536 or the lent image        value: the line's number
  *  12  there is no end line
+ *  30  an entry or a call's target is odd or outside  value: the offset of the call's line, or the entry
+ *  31  a line does not decode                         value: its offset
+ *  32  a jump, branch, skip or indirect call          value: its offset
+ *  33  an `out` to $3D or $3E                         value: its offset
+ *  34  a pop below the level at entry                 value: its offset
+ *  35  a return at another level than at entry        value: its offset
+ *  36  a seventeenth call level                       value: the offset of the call's line
+ *  37  the image ends before a return                 value: its length
  *  40  a map does not have 8,192 bytes
  *  41  an odd offset
  *  42  an offset past 131,071
@@ -83,6 +91,13 @@ uint64_t avr_read_ranges(const uint8_t *ranges, size_t ranges_length, uint8_t *m
 /* The map as a picture in the portable bitmap format (P4), 256 by 256, a word a pixel, word 0 top left, visited words black: 8,203
  * bytes. Refusals 40, 3. */
 uint64_t avr_write_picture(const uint8_t *map, size_t map_length, uint8_t *out, size_t out_length);
+
+/* ---- A routine's stack */
+
+/* The most stack bytes that the straight routine at an entry uses, above the level at its entry: pushes, and for each call 2 bytes and what
+ * the called routine uses, at most sixteen calls deep. Refusals 5, and 30 to 37: the first in the order of the walk, a called routine before
+ * the lines behind its call, and on one line the lowest. */
+uint64_t avr_stack(const uint8_t *image, size_t image_length, uint8_t flag, uint32_t entry);
 
 #ifdef __cplusplus
 }

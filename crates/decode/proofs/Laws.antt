@@ -18,11 +18,11 @@ use Rattle.rows.specs.Columns.{rowAt, formAt}
 use Rattle.rows.proofs.Table.{row-count}
 use Rattle.rows.proofs.Forms.{form-bytes}
 
-either-way : (P : Answer Instruction → Type 0) (b : Bool) (x y : Answer Instruction) → (b ≡ true → P x) → (b ≡ false → P y) → P (pick b x y)
+pub either-way : (P : Answer Instruction → Type 0) (b : Bool) (x y : Answer Instruction) → (b ≡ true → P x) → (b ≡ false → P y) → P (pick b x y)
 either-way P true x y p q = p refl
 either-way P false x y p q = q refl
 
-four-else : (i : ℕ) → i < 103 → (rowAt i .bytes ≡ 2 → ⊥) → rowAt i .bytes ≡ 4
+pub four-else : (i : ℕ) → i < 103 → (rowAt i .bytes ≡ 2 → ⊥) → rowAt i .bytes ≡ 4
 four-else i h n = go (eqb (formAt i / 524288) 0) (form-bytes i h)
   where
     go : (b : Bool) → pick b 2 4 ≡ rowAt i .bytes → rowAt i .bytes ≡ 4
@@ -60,7 +60,7 @@ module _ (flag : Bool) (bs : List ℕ) where
 
 -- ---- bytes behind
 
-no-short : {A : Type 0} → _≡_ {A = Bool} true false → A
+pub no-short : {A : Type 0} → _≡_ {A = Bool} true false → A
 no-short e = absurd (let z : _≡_ {A = ℕ} 0 1 = cc in omega arith)
 
 same-way : (b b′ : Bool) (x y x′ y′ : Answer Instruction)

@@ -17,7 +17,8 @@ use Rattle.manual.specs.Lines.{lineOf, lengthOf, isByte, tailAfter, headLine, l
 use Rattle.decode.proofs.Steps.{short-2}
 use Rattle.walk.specs.Theorems.{total}
 use Rattle.walk.proofs.Along.{lineHere, takes, unroll, along, none-left}
-use Rattle.listing.specs.Parts.{begunBy, partOf, partLines}
+use Rattle.listing.specs.Begun.{begunBy}
+use Rattle.listing.specs.Parts.{partOf, partLines}
 
 -- ---- what is left behind them
 

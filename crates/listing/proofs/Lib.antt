@@ -4,6 +4,7 @@ pub mod Turn
 pub mod Behind
 pub mod Parts
 pub mod Short
+pub mod PartByPart
 pub mod Buffers
 pub mod LentTables
 pub mod Unique

@@ -16,7 +16,9 @@ use Rattle.walk.specs.Theorems.{total}
 use Rattle.walk.proofs.At.{unroll-at, lines-within}
 use Rattle.walk.proofs.Theorems.{left-adds-up}
 use Rattle.walk.proofs.Placed.{total-append}
-use Rattle.listing.specs.Parts.{wholes, begunBy, partLines}
+use Rattle.walk.specs.Joining.{wholes}
+use Rattle.listing.specs.Begun.{begunBy}
+use Rattle.listing.specs.Parts.{partLines}
 use Rattle.listing.proofs.Behind.{begun-split, bytes-behind}
 
 no-wholes : (bs : List ℕ) → wholes (map line.Byte bs) ≡ []
@@ -61,6 +63,10 @@ module _ (flag : Bool) (image : List ℕ) where
 
   pub wholes-within : total (partLines flag true image) ≤ length image
   wholes-within = rw (← wholes-begun (length image) (omega arith)) (begun-within flag (length image) 0 image)
+
+  -- behind them only `.byte` lines are left
+  pub wholes-left : linesFrom flag false (drop (total (partLines flag true image)) image) ≡ map line.Byte (drop (total (partLines flag true image)) image)
+  wholes-left = rw (← wholes-begun (length image) (omega arith)) (bytes-behind flag true (length image) image 0 (omega arith))
 
   -- lines have been written up to a place, and those that begin before another are
   pub part-turn : (more : Bool) (stop at : ℕ) (ms : List Line) {full : List Line} → ms ++ partLines flag more (drop at image) ≡ full

@@ -14,13 +14,11 @@ use Rattle.manual.specs.Decode.{decodes, wordAt}
 use Rattle.manual.specs.Lines.{limit, lineOf, lengthOf, linesFrom}
 use Rattle.manual.specs.Listing.{lineText, listingLine, placed, printed, listing}
 use Rattle.decode.proofs.Laws.{cases}
+use Rattle.encode.specs.Demand.{Bytes}
 use Rattle.text.proofs.Longest.{no-text-longer-than-21}
 use Rattle.walk.proofs.Along.{lineHere, takes, unroll, along, none-left}
 use Rattle.walk.proofs.At.{lines-within}
 use Rattle.listing.proofs.Steps.{padded-length, line-length}
-
-abbrev Bytes : List ℕ → Type 0
-Bytes bs = (k : ℕ) → getD bs k 0 < 256
 
 bytes-behind : (bs : List ℕ) (n : ℕ) → Bytes bs → Bytes (drop n bs)
 bytes-behind bs n h k = rw (getD-drop n bs k 0) (h (n + k))
@@ -48,7 +46,7 @@ here-share flag false b bs h =
     cases flag (b ∷ bs) (λ a. decodes flag (b ∷ bs) ≡ a → Share (lineOf a b))
     (λ x w e. instruction-share x (w .0) (no-text-longer-than-21 flag (b ∷ bs) h x e)) (λ two e. word-share (wordAt (b ∷ bs) 0)) (λ n k e. byte-share b) refl
 
-left-short : (flag tail : Bool) (bs : List ℕ) → Bytes bs → (o : ℕ) → length (printed (placed o (linesFrom flag tail bs))) ≤ 18 * length bs
+pub left-short : (flag tail : Bool) (bs : List ℕ) → Bytes bs → (o : ℕ) → length (printed (placed o (linesFrom flag tail bs))) ≤ 18 * length bs
 left-short flag =
     along flag (λ tail bs. Bytes bs → (o : ℕ) → length (printed (placed o (linesFrom flag tail bs))) ≤ 18 * length bs)
     (λ tail h o. rw (none-left flag tail) (omega arith))

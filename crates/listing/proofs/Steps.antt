@@ -17,7 +17,7 @@ use Rattle.put.proofs.Puts.{then, nothing, put-first}
 use Rattle.walk.specs.Theorems.{total}
 use Rattle.walk.proofs.Placed.{total-append, placed-append, printed-append}
 use Rattle.listing.specs.Lent.{Wrote, Fitted}
-use Rattle.listing.specs.Parts.{tailText}
+use Rattle.listing.specs.Begun.{tailText}
 
 pub same-text : {d X Y d₁ : List ℕ} {o r : ℕ} → X ≡ Y → Put d o X d₁ r → Put d o Y d₁ r
 same-text {d} {X} {Y} {d₁} {o} {r} e p = subst (λ (Z : List ℕ). Put d o Z d₁ r) e p
@@ -46,7 +46,7 @@ line-length at l = rw length-append (omega (arith, padded-length 16 6 at))
 
 -- ---- one after another
 
-text-append : (at : ℕ) (xs ys : List Line) (n : ℕ) → n ≡ total xs → printed (placed at xs) ++ printed (placed (at + n) ys) ≡ printed (placed at (xs ++ ys))
+pub text-append : (at : ℕ) (xs ys : List Line) (n : ℕ) → n ≡ total xs → printed (placed at xs) ++ printed (placed (at + n) ys) ≡ printed (placed at (xs ++ ys))
 text-append at xs ys n e = rw e (sym (ap printed (placed-append at xs ys) ∙ printed-append (placed at xs) (placed (at + total xs) ys)))
 
 pub wrote-none : (at : ℕ) (d : List ℕ) (o : ℕ) → o ≤ length d → Wrote at [] d o d 0 o

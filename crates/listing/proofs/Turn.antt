@@ -16,7 +16,8 @@ use Rattle.manual.specs.Decode.{decodes}
 use Rattle.manual.specs.Lines.{limit, lineOf, lengthOf, isByte, lineAt, linesFrom}
 use Rattle.walk.specs.Theorems.{total}
 use Rattle.walk.proofs.At.{is-line, at-length, unroll-at}
-use Rattle.listing.specs.Parts.{wholes, begunBy}
+use Rattle.walk.specs.Joining.{wholes}
+use Rattle.listing.specs.Begun.{begunBy}
 
 -- ---- one line
 

@@ -1,5 +1,5 @@
 -- Two answers that a statement allows are equal, and so is what they leave in the buffer, which is equated with a definition.
-use mathlib.Core.Path.{_≡_, sym, _∙_}
+use mathlib.Core.Path.{_≡_, sym, ap, _∙_}
 use mathlib.Core.Bool.{Bool}
 use mathlib.Core.List.{List}
 use Prim.Native.Nat.{ℕ}
@@ -10,6 +10,9 @@ use Rattle.avr.specs.declared.Listed.{Listed}
 use Rattle.avr.specs.declared.Listed.the-variants as listed
 use Rattle.manual.specs.Answers.{ofLineWritten, ofListed}
 use Rattle.manual.specs.Lists.{writesLine, lineLeft, lists, listLeft}
+use Rattle.listing.specs.declared.PartListed.{PartListed}
+use Rattle.listing.specs.declared.PartListed.the-variants as partListed
+use Rattle.listing.specs.Parts.{ofPartListed, listsPart, partLeft}
 
 line-injective : (a b : LineWritten) → ofLineWritten a ≡ ofLineWritten b → a ≡ b
 line-injective (lineWritten.Done m) (lineWritten.Done n) e = cc
@@ -46,3 +49,25 @@ line-buffer-unique flag image at tail buffer = one-answer
 
 pub list-buffer-unique : (flag : Bool) (image buffer d₁ d₂ : List ℕ) → d₁ ≡ listLeft flag image buffer → d₂ ≡ listLeft flag image buffer → d₁ ≡ d₂
 list-buffer-unique flag image buffer = one-answer
+
+part-injective : (a b : PartListed) → ofPartListed a ≡ ofPartListed b → a ≡ b
+part-injective (partListed.Done m i) (partListed.Done n j) e =
+    let x : _≡_ {A = ℕ × ℕ} (m, i) (n, j) = cc in
+    let y : m ≡ n = ap (λ (p : ℕ × ℕ). p .0) x in
+    let z : i ≡ j = ap (λ (p : ℕ × ℕ). p .1) x in
+    cc
+part-injective (partListed.Done m i) (partListed.NoRoom n) e = cc
+part-injective (partListed.Done m i) partListed.TooLong e = cc
+part-injective (partListed.NoRoom m) (partListed.Done n j) e = cc
+part-injective (partListed.NoRoom m) (partListed.NoRoom n) e = cc
+part-injective (partListed.NoRoom m) partListed.TooLong e = cc
+part-injective partListed.TooLong (partListed.Done n j) e = cc
+part-injective partListed.TooLong (partListed.NoRoom n) e = cc
+part-injective partListed.TooLong partListed.TooLong e = cc
+
+module _ (flag more : Bool) (base : ℕ) (part buffer : List ℕ) where
+  pub list-part-unique : (a b : PartListed) → ofPartListed a ≡ listsPart flag more base part buffer → ofPartListed b ≡ listsPart flag more base part buffer → a ≡ b
+  list-part-unique a b p q = part-injective a b (p ∙ sym q)
+
+  pub part-buffer-unique : (d₁ d₂ : List ℕ) → d₁ ≡ partLeft flag more base part buffer → d₂ ≡ partLeft flag more base part buffer → d₁ ≡ d₂
+  part-buffer-unique = one-answer

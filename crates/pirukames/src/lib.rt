@@ -14,6 +14,7 @@ ghost use Rattle.manual.specs.Room.{written, filled};
 
 mod coverage;
 mod intel_hex;
+mod routine;
 
 use avr::Decoded;
 use avr::Encoded;

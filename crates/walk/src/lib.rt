@@ -1,6 +1,8 @@
 // The walk over an image: what stands at a state, the step past it, and the count of lines. A state is a position and whether the
 // tail has begun. The reader goes by these, and counts by `pass`; a listing has a loop of its own (`listing::helper`), proved to write
 // the same lines.
+pub mod helper;
+
 use avr::Begun;
 use avr::Decoded;
 use avr::Line;
@@ -70,7 +72,7 @@ pub fn line_at(image: &[u8], place: Place, target: Target) -> Line
 }
 
 // How many bytes a line takes.
-fn line_length(l: Line) -> usize
+pub fn line_length(l: Line) -> usize
     ensures { λ r. ⌜ r ≡ lengthOf l ⌝ }
 {
     match l {

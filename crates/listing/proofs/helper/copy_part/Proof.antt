@@ -10,7 +10,8 @@ use lib.ListN.{length, drop}
 use Rattle.avr.specs.declared.Line.{Line}
 use Rattle.avr.specs.declared.Line.the-variants as line
 use Rattle.manual.specs.Listing.{placed, printed}
-use Rattle.listing.specs.Parts.{tailText, partLines}
+use Rattle.listing.specs.Begun.{tailText}
+use Rattle.listing.specs.Parts.{partLines}
 use Rattle.listing.proofs.Steps.{fitted-same, fitted-lines}
 use Rattle.listing.proofs.Parts.{then-tail, wholes-within, part-total}
 use Rattle.listing.proofs.helper.copy_part.Statement.{statement}

@@ -16,7 +16,8 @@ use Rattle.put.proofs.Fit.{at-start, start-length}
 use Rattle.walk.specs.Theorems.{total}
 use Rattle.walk.proofs.Placed.{total-append}
 use Rattle.listing.specs.Lent.{Fitted}
-use Rattle.listing.specs.Parts.{partLines, begunBy}
+use Rattle.listing.specs.Begun.{begunBy}
+use Rattle.listing.specs.Parts.{partLines}
 use Rattle.listing.proofs.Steps.{fitted-none, fitted-same, fitted-lines}
 use Rattle.listing.proofs.Behind.{none-begun}
 use Rattle.listing.proofs.Parts.{begun-inside, part-turn, part-bytes}

@@ -13,7 +13,7 @@ use Rattle.manual.specs.Lines.{lineAt, linesFrom}
 use Rattle.manual.specs.Listing.{placed, printed}
 use Rattle.put.proofs.Puts.{then, length-kept}
 use Rattle.walk.proofs.At.{is-byte}
-use Rattle.listing.specs.Parts.{begunBy}
+use Rattle.listing.specs.Begun.{begunBy}
 use Rattle.listing.proofs.Steps.{same-text}
 use Rattle.listing.proofs.Turn.{one-begun}
 use Rattle.listing.proofs.Behind.{none-begun}

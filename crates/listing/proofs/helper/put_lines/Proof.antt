@@ -12,7 +12,7 @@ use Rattle.manual.specs.Lines.{linesFrom}
 use Rattle.decode.specs.Found.{ofFound}
 use Rattle.put.proofs.Puts.{length-kept}
 use Rattle.listing.specs.Lent.{Wrote}
-use Rattle.listing.specs.Parts.{begunBy}
+use Rattle.listing.specs.Begun.{begunBy}
 use Rattle.listing.proofs.Steps.{wrote-none, wrote-turn, wrote-same}
 use Rattle.listing.proofs.Turn.{begun-none, positive, found-here, turn-within, turn-last, turn-next}
 use Rattle.listing.proofs.helper.put_lines.Statement.{statement}

@@ -9,7 +9,7 @@ use lib.ListN.{length, drop}
 use Rattle.put.proofs.Puts.{length-kept}
 use Rattle.put.proofs.Fit.{at-start, start-length}
 use Rattle.listing.specs.Lent.{Fitted}
-use Rattle.listing.specs.Parts.{tailText}
+use Rattle.listing.specs.Begun.{tailText}
 use Rattle.listing.proofs.Steps.{fitted-none, fitted-then, fitted-same, tail-step, tail-end}
 use Rattle.listing.proofs.helper.put_tail.Statement.{statement}
 use Rattle.listing.proofs.helper.put_tail.Tie as tie
