@@ -15,6 +15,7 @@ ghost use Rattle.manual.specs.Room.{written, filled};
 mod coverage;
 mod intel_hex;
 mod routine;
+mod traces;
 
 use avr::Decoded;
 use avr::Encoded;

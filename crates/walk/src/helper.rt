@@ -1,7 +1,7 @@
 // Where a jump or a call leads, by its relative operand.
 ghost use mathlib.Core.Path.{_≡_};
-ghost use Prim.Native.Nat.{_≤_};
-ghost use Rattle.manual.specs.Lines.{limit, leadsTo};
+ghost use Prim.Native.Nat.{_<_, _^_};
+ghost use Rattle.manual.specs.Lines.{leadsTo};
 ghost use Rattle.walk.specs.Reach.{reached};
 
 // An offset, or one below 0.
@@ -10,9 +10,9 @@ pub enum Reach {
     Below,
 }
 
-// From a line at an offset, by an operand in words.
+// From a line at an offset of a slice, by an operand in words.
 pub fn leads_to(at: usize, v: i16) -> Reach
-    requires { ⌜ at ≤ limit ⌝ }
+    requires { ⌜ at < 2 ^ 63 ⌝ }
     ensures { λ r. ⌜ r ≡ reached (leadsTo at v) ⌝ }
 {
     let bytes = (operands::magnitude(v) as usize) * 2;
