@@ -17,7 +17,7 @@ put-row-requires c κs = (refl, c .before .before .before .pre .0, c .before .be
 
 returns : tie.Need-returns
 returns c =
-    let line = c .before .before .before .before .before .before .before .before .args .line .now in
+    let line = c .before .before .before .before .before .before .before .args .line .now in
     c .equal .ensures ∙ ap (λ (l : List ℕ). same l line) (at-start (c .before .before .before .put-row .ensures .0))
 
 pub row-prints-spec : {M : Type 1} → statement M
