@@ -21,7 +21,7 @@ use Rattle.pirukames.proofs.avr_text.Tie as tie
 put-row-requires : tie.Need-put-row-requires
 unfolding rows kinds maskList valueList targetList formList spanList digit mnemonic nameList nameBytes
 put-row-requires c κs =
-    let f = c .before .before .before .before in
+    let f = c .before .before .before in
     let k = row-known (f .found3 .given .1) (f .before .before .find-one .ensures .1) in
     (lent .name, k .0, k .1, search needs)
 
@@ -43,7 +43,7 @@ returns-2 c =
 returns-3 : tie.Need-returns-3
 returns-3 c =
     let p = c .before .before .before .before .before .before in
-    let f = p .before .before .before .before .before in
+    let f = p .before .before .before .before in
     through _ _ _ ofText (ap ofFound (sym (f .found3 .given .1)) ∙ f .before .before .find-one .ensures .0)
     (same-text _ _ _ (at-start (p .put-row .ensures .0)) (c .before .before .give .ensures))
 
