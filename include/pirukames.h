@@ -10,7 +10,8 @@
  *   2  bytes are missing                              value: bytes needed, 2 or 4
  *   3  the buffer is too short                        value: bytes needed
  *   5  the image is longer than 8,388,608 bytes, or than 65,536 where it is written as HEX
- *   6  a line of offsets is not six upper-case hexadecimal digits
+ *   6  a line of offsets is not six upper-case hexadecimal digits, or a line of a trace not 72
+ *                                                     value: of a trace, the line's number, from 1
  *   7  a HEX line has bad form                        value: the line's number, from 1
  *   8  its bytes do not add up to 0                   value: the line's number
  *   9  its type is neither 00 nor 01                  value: the line's number
@@ -19,6 +20,20 @@
  *  12  there is no end line
  *  13  no image of at most 8,388,608 bytes has that listing
  *  14  the lent image is too short                   value: bytes needed
+ *  20  a frame of a trace is not what the frame before it steps to
+ *                                                     value: the frame's number, from 1
+ *  21  a frame's offset is odd or outside the image   value: the frame's number
+ *  22  the bytes at its offset do not decode          value: the frame's number
+ *  23  its instruction is not one that is stepped     value: the frame's number
+ *  24  it steps to an offset outside the image        value: the frame's number
+ *  30  an entry or a call's target is odd or outside  value: the offset of the call's line, or the entry
+ *  31  a line does not decode                         value: its offset
+ *  32  a jump, branch, skip or indirect call          value: its offset
+ *  33  an `out` to $3D or $3E                         value: its offset
+ *  34  a pop below the level at entry                 value: its offset
+ *  35  a return at another level than at entry        value: its offset
+ *  36  a seventeenth call level                       value: the offset of the call's line
+ *  37  the image ends before a return                 value: its length
  *  40  a map does not have 8,192 bytes
  *  41  an odd offset
  *  42  an offset past 131,071
@@ -60,6 +75,13 @@ uint64_t avr_read_hex(const uint8_t *text, size_t text_length, uint8_t *image, s
  * 65,536 bytes, then 3. For n bytes the room is 12 * ((n + 15) / 16) + 2 * n + 12. avr_read_hex gives the same image again. */
 uint64_t avr_write_hex(const uint8_t *image, size_t image_length, uint8_t *out, size_t out_length);
 
+/* Replays a trace of the car board (flag 0) on its image: the number of frames, where each is what the frame before it steps to. A line
+ * is a frame: its offset in 3 bytes, high byte first, r0 to r31, SREG; 72 digits. Lines end in LF; a last one without it counts if not
+ * empty. The last frame is not stepped. Refusals 6, before the frame above the line is stepped, and 20 to 24: the first line decides.
+ * Stepped are nop ldi mov add adc sub sbc cp cpc subi sbci cpi and andi or ori eor inc dec rjmp and the conditional branches. A trace
+ * of less than 2^32 lines at a time: a larger number would read as a refusal. */
+uint64_t avr_replay(const uint8_t *image, size_t image_length, const uint8_t *trace, size_t trace_length);
+
 /* The image that a listing is of: what avr_list writes for it, then a line `end`, a blank and the number of its bytes, each line ended by
  * LF. No two images have one such text. Refusals 13, then 14. */
 uint64_t avr_read_listing(const uint8_t *text, size_t text_length, uint8_t flag, uint8_t *image, size_t image_length);
@@ -89,6 +111,13 @@ uint64_t avr_read_ranges(const uint8_t *ranges, size_t ranges_length, uint8_t *m
 /* The map as a picture in the portable bitmap format (P4), 256 by 256, a word a pixel, word 0 top left, visited words black: 8,203
  * bytes. Refusals 40, 3. */
 uint64_t avr_write_picture(const uint8_t *map, size_t map_length, uint8_t *out, size_t out_length);
+
+/* ---- A routine's stack */
+
+/* The most stack bytes that the straight routine at an entry uses, above the level at its entry: pushes, and for each call 2 bytes and what
+ * the called routine uses, at most sixteen calls deep. Refusals 5, and 30 to 37: the first in the order of the walk, a called routine before
+ * the lines behind its call, and on one line the lowest. */
+uint64_t avr_stack(const uint8_t *image, size_t image_length, uint8_t flag, uint32_t entry);
 
 #ifdef __cplusplus
 }

@@ -1,15 +1,17 @@
 -- A record made of a row's parts is the row's, and the answers of decoding, case by case.
 use mathlib.Core.Path.{_≡_, refl, sym, ap, _∙_}
-use mathlib.Core.Bool.{Bool}
+use mathlib.Core.Bool.{Bool, true, false}
 use mathlib.Core.List.{List}
 use Prim.Native.Nat.{ℕ, _/_, _%_, _≤_, _<_}
 use native.Mathlib.Omega.{arith}
+use lib.Dec.{eqb}
 use lib.ListN.{length}
 use borrow.Author.Tests.{lt-ltb, le-ltb, le-leb, lt-leb, eq-eqb, ne-eqb}
 use Rattle.avr.specs.Codes.{opcodeOf, sregOf}
 use Rattle.avr.specs.declared.Opcode.{Opcode}
 use Rattle.avr.specs.declared.Operand.{Operand}
 use Rattle.avr.specs.declared.Instruction.{Instruction}
+use Rattle.manual.specs.Choice.{pick}
 use Rattle.manual.specs.Answers.{Answer, gives, noSuchWord, short}
 use Rattle.manual.specs.Rows.{rows, place}
 use Rattle.manual.specs.Decode.{wordAt, nameOf, rowInstruction, withRow, atPlace, decodes}
@@ -54,6 +56,14 @@ module _ (flag : Bool) (bs : List ℕ) where
       two e =
           ap (λ (v : ℕ). gives (rowInstruction (rowAt i) v 0)) hw
           ∙ sym (at-row ∙ rw (eq-eqb (rowAt i .bytes) 2 (sym (bytes-are i h) ∙ e)))
+
+      -- what is not of two bytes is of four
+      pub long : (bytesFrom (formAt i) ≡ 2 → ⊥) → _≡_ {A = ℕ} 4 (rowAt i .bytes)
+      long n = go (eqb (formAt i / 524288) 0) refl ∙ bytes-are i h
+        where
+          go : (t : Bool) → eqb (formAt i / 524288) 0 ≡ t → _≡_ {A = ℕ} 4 (pick (eqb (formAt i / 524288) 0) 2 4)
+          go true e = absurd (n (rw e))
+          go false e = rw e
 
       pub short-4 : (bytesFrom (formAt i) ≡ 2 → ⊥) → length bs < 4 → short 4 ≡ decodes flag bs
       short-4 n g = sym (at-row ∙ rw (ne-eqb (rowAt i .bytes) 2 (λ e. n (bytes-are i h ∙ e)), lt-ltb (length bs) 4 g))

@@ -20,12 +20,12 @@ pub record Tables (masks values targets spans forms : List ℕ) : Type 0 where
 
 -- the record that a row and its words make, or the refusal
 abbrev pub ofFound : Found → Answer Instruction
-ofFound (found.Row i f w e) = gives (rowInstruction (rowAt i) w e)
+ofFound (found.Row i f w e n) = gives (rowInstruction (rowAt i) w e)
 ofFound (found.InvalidOpcode w) = noSuchWord w
 ofFound (found.Short n) = short n
 
--- a row that is found is one of the rows, with its own form
+-- a row that is found is one of the rows, with its own form and length
 abbrev pub Known : Found → Type 0
-Known (found.Row i f w e) = (i < 103) × (f ≡ formAt i)
+Known (found.Row i f w e n) = (i < 103) × (f ≡ formAt i) × (n ≡ rowAt i .bytes)
 Known (found.InvalidOpcode w) = Unit
 Known (found.Short n) = Unit

@@ -50,13 +50,16 @@ pub(crate) fn word_at(bytes: &[u8], at: usize) -> u16
     wide(lo) + wide(hi) * 256
 }
 
-// What the bytes begin with: a row, by its place and its form, with the words; or what decoding refuses.
+// What the bytes begin with: a row, by its place and its form, with the words and how many bytes they are; or what decoding refuses.
+// The form says the number of bytes too, but whoever walks on by it waits until the form is read: beside it, the number is known by the
+// branch that was taken.
 pub enum Found {
     Row {
         row: usize,
         form: u32,
         word: u16,
         extra: u16,
+        length: usize,
     },
     InvalidOpcode(u16),
     Short(u8),
@@ -90,6 +93,7 @@ pub fn find(
             form,
             word,
             extra: 0,
+            length: 2,
         };
     }
     if bytes.len() < 4 {
@@ -101,6 +105,7 @@ pub fn find(
         form,
         word,
         extra,
+        length: 4,
     }
 }
 

@@ -43,6 +43,7 @@ pub fn decode(bytes: &[u8], target: Target) -> Decoded
             form,
             word,
             extra,
+            length: _,
         } => Decoded::Instruction(instruction(row, form, word, extra)),
         Found::InvalidOpcode(word) => Decoded::InvalidOpcode(word),
         Found::Short(needed) => Decoded::Short(needed),

@@ -1,7 +1,6 @@
 // A record in numbers.
 ghost use mathlib.Core.Path.{_≡_};
 ghost use Prim.Native.Nat.{_<_};
-ghost use lib.IntN.{natAbs};
 ghost use Rattle.manual.specs.Numbers.{indexCode, changeCode, displacement, registerNumber, folded, operandNumber, numbersOf};
 use avr::IndexRegister;
 use avr::IndexRegisterModifier;
@@ -62,21 +61,11 @@ fn register_number(g: Register) -> OperandNumber
     }
 }
 
-fn magnitude(v: i16) -> u16
-    ensures { λ r. ⌜ r ≡ natAbs v ⌝ }
-{
-    if v < 0 {
-        (0 - (v as i32)) as u16
-    } else {
-        v as u16
-    }
-}
-
 // A signed number as a natural one: 0, 1, -1, 2, -2 as 0, 1, 2, 3, 4.
 fn fold(v: i16) -> u32
     ensures { λ r. ⌜ r ≡ folded v ⌝ }
 {
-    let m = magnitude(v) as u32;
+    let m = operands::magnitude(v) as u32;
     if v <= 0 {
         return m * 2;
     }

@@ -11,6 +11,7 @@ use lib.Seq.{take-suc-set}
 use borrow.Author.Tests.{le-ltb, lt-ltb, ltb-true, ltb-false}
 use Rattle.manual.specs.Choice.{pick}
 use Rattle.manual.specs.Frames.{lineAnswer, inFront, pieces, answered, printedFor}
+use Rattle.spell.proofs.Front.{joined, front, front-none, front-byte}
 use Rattle.frame.specs.Stream.{State, stateText, turnText, turned, texts, after, ended, inPieces}
 use Rattle.frame.proofs.Read.{answer-long}
 
@@ -29,10 +30,6 @@ after-join (b ∷ bs) st t = after-join bs (turned st b) t
 -- all that is printed from a state on
 unfoldable run : State → List ℕ → List ℕ
 run st s = texts st s ++ ended (after st s)
-
-abbrev pub joined : List (List ℕ) → List ℕ
-joined [] = []
-joined (c ∷ cs) = c ++ joined cs
 
 pieces-run : (cs : List (List ℕ)) (st : State) → inPieces st cs ≡ run st (joined cs)
 unfolding inPieces texts after run
@@ -64,21 +61,6 @@ more b (short {n} {l} {q} k h e t) x = rw x (go (ltb n 130) refl)
         short {n = n + 1} {q = q ++ (b ∷ [])} (length-set l n b ∙ k) (omega arith) (rw (length-append, e)) a
     go false z = let i = ltb-false n 130 z in long {q = q ++ (b ∷ [])} k (rw length-append (omega arith))
 more b (long {l} {q} k h) x = rw x (long {q = q ++ (b ∷ [])} k (rw length-append (omega arith)))
-
--- the line so far in front of the pieces of what is left
-abbrev front : List ℕ → List (List ℕ) → List (List ℕ)
-front [] [] = []
-front (x ∷ q) [] = (x ∷ q) ∷ []
-front q (p ∷ ps) = (q ++ p) ∷ ps
-
-front-none : (ps : List (List ℕ)) → front [] ps ≡ ps
-front-none [] = refl
-front-none (p ∷ ps) = refl
-
-front-byte : (q : List ℕ) (b : ℕ) (ps : List (List ℕ)) → front (q ++ (b ∷ [])) ps ≡ front q (inFront b ps)
-front-byte [] b [] = refl
-front-byte (x ∷ q) b [] = refl
-front-byte q b (p ∷ ps) = ap (λ l. l ∷ ps) (append-assoc q (b ∷ []) p)
 
 end-text : {st : State} (q : List ℕ) → Holds st q → ended st ≡ answered (front q [])
 unfolding ended

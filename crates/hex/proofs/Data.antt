@@ -1,44 +1,16 @@
 -- The bytes of a data line, between its type and its sum.
-use mathlib.Core.Path.{_≡_, refl, sym, ap, _∙_}
+use mathlib.Core.Path.{_≡_, sym, ap, _∙_}
 use mathlib.Core.Bool.{true}
-use mathlib.Core.List.{List, [], _∷_}
-use Prim.Native.Nat.{ℕ, zero, suc, _+_, _-_, _*_, _/_, _≤_}
+use mathlib.Core.List.{List}
+use Prim.Native.Nat.{ℕ, _-_, _*_, _/_, _≤_}
 use native.Mathlib.Omega.{arith}
 use lib.ListN.{length, take, drop, length-drop}
 use lib.Seq.{length-take-le, drop-drop}
-use Rattle.manual.specs.Spelt.{isDigit, allDigits, bytesSpelt}
-use Rattle.spell.proofs.Digits.{both-true, digits-drop}
-use Rattle.spell.proofs.Spelt.{spelt-rest}
+use Rattle.manual.specs.Spelt.{allDigits, bytesSpelt}
+use Rattle.spell.proofs.Digits.{digits-take, digits-drop}
+use Rattle.spell.proofs.Spelt.{spelt-take, spelt-drop}
 use Rattle.hex.specs.Hex.{bytesOf, countOf, dataOf, isSpelt}
 use Rattle.hex.proofs.Formed.{good, bytes-many}
-
--- ---- parts of a line of digits
-
-digits-take : (k : ℕ) (s : List ℕ) → allDigits s ≡ true → allDigits (take k s) ≡ true
-unfolding allDigits
-digits-take zero s e = refl
-digits-take (suc k) [] e = refl
-digits-take (suc k) (b ∷ bs) e = let p = both-true (isDigit b) (allDigits bs) e in rw (p .0) (digits-take k bs (p .1))
-
-spelt-drop : (k : ℕ) (s : List ℕ) → drop k (bytesSpelt s) ≡ bytesSpelt (drop (2 * k) s)
-spelt-drop zero s = refl
-spelt-drop (suc k) s =
-    let a : 1 + k ≡ suc k = omega arith in
-    let b : 2 + 2 * k ≡ 2 * suc k = omega arith in
-    ap (λ (n : ℕ). drop n (bytesSpelt s)) (sym a) ∙ sym (drop-drop k 1 (bytesSpelt s)) ∙ ap (drop k) (spelt-rest s) ∙ spelt-drop k (drop 2 s)
-    ∙ ap bytesSpelt (drop-drop (2 * k) 2 s ∙ ap (λ (n : ℕ). drop n s) b)
-
-spelt-take : (k : ℕ) (s : List ℕ) → bytesSpelt (take (2 * k) s) ≡ take k (bytesSpelt s)
-unfolding bytesSpelt
-spelt-take zero s = refl
-spelt-take (suc k) s = let e : 2 * suc k ≡ suc (suc (2 * k)) = omega arith in rw e (go (spelt-take k) s)
-  where
-    go : ((r : List ℕ) → bytesSpelt (take (2 * k) r) ≡ take k (bytesSpelt r)) → (s : List ℕ) → bytesSpelt (take (suc (suc (2 * k))) s) ≡ take (suc k) (bytesSpelt s)
-    go h [] = refl
-    go h (a ∷ []) = refl
-    go h (a ∷ b ∷ r) = rw (h r)
-
--- ---- the part that the code takes
 
 module _ (l : List ℕ) (h : isSpelt l ≡ true) where
   pub line-long : 11 ≤ length l

@@ -18,5 +18,5 @@ two-or-four false = omega arith
 pub row-share : (i o r n : ℕ) → i < 103 → r ≤ o + 30 → n ≡ rowAt i .bytes → r ≤ o + 18 * n
 row-share i o r n h m e = omega (arith, form-bytes i h, two-or-four (eqb (formAt i / 524288) 0))
 
-pub row-known : {f : Found} {i k w e : ℕ} → f ≡ found.Row i k w e → Known f → (i < 103) × (k ≡ formAt i)
+pub row-known : {f : Found} {i k w e n : ℕ} → f ≡ found.Row i k w e n → Known f → (i < 103) × (k ≡ formAt i) × (n ≡ rowAt i .bytes)
 row-known e h = subst Known e h

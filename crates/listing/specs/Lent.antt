@@ -6,15 +6,14 @@ use lib.ListN.{length}
 use Rattle.avr.specs.declared.Line.{Line}
 use Rattle.manual.specs.Listing.{placed, printed}
 use Rattle.decode.specs.Found.{Tables}
-use Rattle.text.specs.Names.{nameBytes, nameLengths}
+use Rattle.text.specs.Names.{nameBytes}
 use Rattle.walk.specs.Theorems.{total}
 use Rattle.put.specs.Put.{Put}
 
--- the lent tables are the columns of the rows and their spans, and the names and their lengths
-pub record Lent (masks values targets spans forms names lengths : List ℕ) : Type 0 where
+-- the lent tables are the columns of the rows and their spans, and the names
+pub record Lent (masks values targets spans forms names : List ℕ) : Type 0 where
   pub tables : Tables masks values targets spans forms
   pub name : names ≡ nameBytes
-  pub size : lengths ≡ nameLengths
 
 -- lines, the first with the offset `at`, each ended by LF, put at o; they take n bytes of the image. No line's text takes more than
 -- 18 bytes for each of them

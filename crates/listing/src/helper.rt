@@ -10,7 +10,7 @@ ghost use Rattle.manual.specs.Lines.{limit, lineOf, lineAt, linesFrom};
 ghost use Rattle.manual.specs.Listing.{placed, printed, listing};
 ghost use Rattle.manual.specs.Archive.{endLine};
 ghost use Rattle.decode.specs.Found.{ofFound, Known};
-ghost use Rattle.text.specs.Names.{nameBytes, nameLengths};
+ghost use Rattle.text.specs.Names.{nameBytes};
 ghost use Rattle.walk.specs.Theorems.{total};
 ghost use Rattle.put.specs.Put.{Put};
 ghost use Rattle.listing.specs.Lent.{Lent, Wrote, Fitted};
@@ -19,7 +19,6 @@ ghost use Rattle.listing.specs.Begun.{begunBy, tailText};
 ghost use Rattle.listing.specs.Parts.{partLines};
 use decode::helper::Found;
 use decode::helper::find;
-use decode::helper::form_bytes;
 use put::put_both;
 use put::put_byte;
 use put::put_bytes;
@@ -32,7 +31,6 @@ use rows::tables::FORMS;
 use rows::tables::MASKS;
 use rows::tables::TARGETS;
 use rows::tables::VALUES;
-use text::names::LENGTHS;
 use text::names::NAMES;
 use text::put_row;
 
@@ -73,15 +71,8 @@ fn put_one(out: &mut [u8], o: usize, at: usize, b: u8) -> usize
 }
 
 // The line of what was found at an offset, ended by LF; nothing where bytes are missing.
-fn put_found(
-    names: &[u8; 660],
-    lengths: &[u8; 110],
-    found: Found,
-    at: usize,
-    out: &mut [u8],
-    o: usize,
-) -> Walked
-    requires { ⌜ (now names ≡ nameBytes) × (now lengths ≡ nameLengths) × Known found × (o + 30 ≤ length (now out)) × (at < 16777216) ⌝ }
+fn put_found(names: &[u8; 770], found: Found, at: usize, out: &mut [u8], o: usize) -> Walked
+    requires { ⌜ (now names ≡ nameBytes) × Known found × (o + 30 ≤ length (now out)) × (at < 16777216) ⌝ }
     ensures { λ r. ⌜ Wrote at (wholes (lineOf (ofFound found) 0 ∷ [])) (now (out .entry)) o (now (out .exit)) (r .length) (r .next) ⌝ }
 {
     match found {
@@ -90,14 +81,12 @@ fn put_found(
             form,
             word,
             extra,
+            length,
         } => {
             let p = put_head(&mut *out, o, at);
-            let q = put_row(names, lengths, row, form, word, extra, &mut *out, p);
+            let q = put_row(names, row, form, word, extra, &mut *out, p);
             let next = put_byte(&mut *out, q, 10);
-            Walked {
-                length: form_bytes(form) as usize,
-                next,
-            }
+            Walked { length, next }
         }
         Found::InvalidOpcode(w) => {
             let next = put_word(&mut *out, o, at, w);
@@ -115,8 +104,7 @@ fn put_lines(
     targets: &[u8; 103],
     spans: &[u16; 512],
     forms: &[u32; 103],
-    names: &[u8; 660],
-    lengths: &[u8; 110],
+    names: &[u8; 770],
     image: &[u8],
     base: usize,
     from: usize,
@@ -125,7 +113,7 @@ fn put_lines(
     out: &mut [u8],
     o: usize,
 ) -> Walked
-    requires { ⌜ Lent (now masks) (now values) (now targets) (now spans) (now forms) (now names) (now lengths) ⌝ }
+    requires { ⌜ Lent (now masks) (now values) (now targets) (now spans) (now forms) (now names) ⌝ }
     requires { ⌜ (base + length (now image) ≤ limit) × (from ≤ length (now image)) × (stop ≤ length (now image) - 1) × (o ≤ length (now out)) × (from < stop → o + 18 * (stop - from) + 12 ≤ length (now out)) ⌝ }
     ensures { λ r. ⌜ Wrote (base + from) (begunBy stop from (linesFrom flag false (drop from (now (image .entry))))) (now (out .entry)) o (now (out .exit)) (r .length) (r .next) ⌝ }
 {
@@ -133,7 +121,7 @@ fn put_lines(
     let mut next = o;
     while at < stop {
         let found = find(masks, values, targets, spans, forms, &image[at..], flag);
-        let w = put_found(names, lengths, found, base + at, &mut *out, next);
+        let w = put_found(names, found, base + at, &mut *out, next);
         next = w.next;
         at = at + w.length;
         if w.length == 0 {
@@ -169,7 +157,6 @@ fn put_span(
         &SPANS,
         &FORMS,
         &NAMES,
-        &LENGTHS,
         image,
         base,
         from,

@@ -4,7 +4,7 @@ use Prim.Native.Nat.{ℕ, zero, suc, pred, _+_}
 use mathlib.Core.Bool.{Bool, true, false}
 use mathlib.Core.List.{List, [], _∷_, map}
 use lib.Dec.{ltb, eqb}
-use lib.IntN.{ℤ, pos, negsuc}
+use lib.IntN.{ℤ, pos, negsuc, _+ℤ_, _*ℤ_}
 use lib.ListN.{length, getD, drop}
 use Rattle.avr.specs.declared.Instruction.{Instruction}
 use Rattle.avr.specs.declared.Line.{Line}
@@ -71,6 +71,10 @@ lines flag image = pick (ltb limit (length image)) [] (linesFrom flag false imag
 abbrev pub inside : List ℕ → ℤ → Bool
 inside image (pos at) = ltb at (length image)
 inside image (negsuc k) = false
+
+-- where a jump or a call at p with the relative operand v leads, which is in words
+abbrev pub leadsTo : ℕ → ℤ → ℤ
+leadsTo p v = pos p +ℤ v *ℤ pos 2
 
 -- whether a walk may begin: refusal 5 over the limit
 unfoldable pub begins : List ℕ → Answer (Unit {0})

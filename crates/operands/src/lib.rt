@@ -1,6 +1,7 @@
 // The operands of a record: from a kind of the row tables, the first word and the second.
 ghost use mathlib.Core.Path.{_≡_};
 ghost use Prim.Native.Nat.{_*_, _<_, _≤_};
+ghost use lib.IntN.{natAbs};
 ghost use Rattle.manual.specs.Operands.{lowOf, farOf};
 ghost use Rattle.rows.specs.Kinds.{kindValue};
 ghost use Rattle.operands.specs.Signed.{signed};
@@ -38,6 +39,17 @@ fn near(half: u16, k: u16) -> i16
     }
     let m = (half * 2 - 1 - k) as i16;
     -m
+}
+
+// How far a relative operand leads, in words and to either side.
+pub fn magnitude(v: i16) -> u16
+    ensures { λ r. ⌜ r ≡ natAbs v ⌝ }
+{
+    if v < 0 {
+        (0 - (v as i32)) as u16
+    } else {
+        v as u16
+    }
 }
 
 // The address of a 16-bit lds or sts.

@@ -13,9 +13,11 @@ use Rattle.manual.specs.Lists.{lists, listLeft}
 use Rattle.manual.specs.Reverse.{Reverse}
 use Rattle.hex.specs.Hex.{reads, sizeOf, laid}
 use Rattle.hex.specs.HexText.{writes, left}
+use Rattle.replay.specs.Trace.{replays}
 use Rattle.archive.specs.Archive.{Lands}
 use Rattle.archive.proofs.Unique.{one-landing}
 use Rattle.reverse.proofs.Unique.{one-reading}
+use Rattle.stack.specs.Stack.{measures}
 use Rattle.pirukames.specs.Library.{coded, delivers, delivered, texts, recodes, strung}
 
 -- of a statement that equates the answer with x and the buffer with y
@@ -60,3 +62,9 @@ module _ (given lent : List ℕ) (a b : ℕ) (d e : List ℕ) where
 
   pub avr-write-hex-unique : (a ≡ coded (writes given lent)) × (d ≡ left given lent) → (b ≡ coded (writes given lent)) × (e ≡ left given lent) → (a ≡ b) × (d ≡ e)
   avr-write-hex-unique = both-unique a b d e
+
+pub avr-stack-unique : (flag : Bool) (image : List ℕ) (entry a b : ℕ) → a ≡ coded (measures flag image entry) → b ≡ coded (measures flag image entry) → a ≡ b
+avr-stack-unique flag image entry = one-answer
+
+pub avr-replay-unique : (image trace : List ℕ) (a b : ℕ) → a ≡ coded (replays image trace) → b ≡ coded (replays image trace) → a ≡ b
+avr-replay-unique image trace = one-answer

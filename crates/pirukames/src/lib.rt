@@ -15,6 +15,8 @@ ghost use Rattle.manual.specs.Room.{written, filled};
 mod archived;
 mod coverage;
 mod intel_hex;
+mod routine;
+mod traces;
 
 use avr::Decoded;
 use avr::Encoded;
@@ -24,7 +26,6 @@ use avr::Strings;
 use avr::Target;
 use decode::helper::Found;
 use decode::helper::find_one;
-use text::names::LENGTHS;
 use text::names::NAMES;
 
 // A text into the lent buffer, or refusal 3.
@@ -55,9 +56,10 @@ pub extern "C" fn avr_text(bytes: &[u8], flag: u8, out: &mut [u8]) -> u64
             form,
             word,
             extra,
+            length: _,
         } => {
             let mut line = [0u8; 21];
-            let n = text::put_row(&NAMES, &LENGTHS, row, form, word, extra, &mut line, 0);
+            let n = text::put_row(&NAMES, row, form, word, extra, &mut line, 0);
             give(&line[..n], &mut *out)
         }
     }

@@ -3,7 +3,9 @@
 ghost use mathlib.Core.Path.{_≡_};
 ghost use mathlib.Core.List.{[], _∷_, _++_};
 ghost use Prim.Native.Nat.{_+_, _<_, _≤_};
+ghost use lib.Dec.{ltb};
 ghost use lib.ListN.{length, drop};
+ghost use Rattle.manual.specs.Choice.{pick};
 ghost use Rattle.manual.specs.Text.{digit, digits, padded, decimal};
 ghost use Rattle.put.specs.Put.{Put};
 
@@ -83,15 +85,25 @@ fn put_two(out: &mut [u8], o: usize, n: u8) -> usize
     put_both(&mut *out, o, 48 + n / 10, 48 + n % 10)
 }
 
-// A number below 100 in decimal, without leading zeros.
+// The place behind a digit that was put at p, or p itself if the digit is a leading 0: then the next one is put over it.
+fn behind(p: usize, n: u8, least: u8) -> usize
+    requires { ⌜ p + 1 < 18446744073709551616 ⌝ }
+    ensures { λ r. ⌜ (r ≡ pick (ltb n least) p (p + 1)) × (r ≤ p + 1) ⌝ }
+{
+    if n < least {
+        return p;
+    }
+    p + 1
+}
+
+// A number below 100 in decimal, without leading zeros. Nothing is branched on, since numbers in code are as good as random.
 pub fn put_small(out: &mut [u8], o: usize, n: u8) -> usize
     requires { ⌜ (o + 2 ≤ length (now out)) × (n < 100) ⌝ }
     ensures { λ r. ⌜ Put (now (out .entry)) o (decimal n) (now (out .exit)) r × (r ≤ o + 2) ⌝ }
 {
-    if n < 10 {
-        return put_byte(&mut *out, o, 48 + n);
-    }
-    put_two(&mut *out, o, n)
+    put_byte(&mut *out, o, 48 + n / 10);
+    let p = behind(o, n, 10);
+    put_byte(&mut *out, p, 48 + n % 10)
 }
 
 // A number below 10,000 in decimal, without leading zeros.
@@ -124,10 +136,9 @@ fn put_hex_byte(out: &mut [u8], o: usize, n: u8) -> usize
     requires { ⌜ o + 2 ≤ length (now out) ⌝ }
     ensures { λ r. ⌜ Put (now (out .entry)) o (digits 16 8 n) (now (out .exit)) r × (r ≤ o + 2) ⌝ }
 {
-    if n < 16 {
-        return put_byte(&mut *out, o, hex_digit(n));
-    }
-    put_hex2(&mut *out, o, n)
+    put_byte(&mut *out, o, hex_digit(n / 16));
+    let p = behind(o, n, 16);
+    put_byte(&mut *out, p, hex_digit(n % 16))
 }
 
 // A number of 24 bits in hexadecimal, without leading zeros.

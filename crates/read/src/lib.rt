@@ -1,7 +1,7 @@
 // Reading a line of text as a record.
 ghost use mathlib.Core.Path.{_≡_};
 ghost use Prim.Native.Nat.{_<_, _≤_};
-ghost use Rattle.text.specs.Names.{nameBytes, nameLengths, nameAt};
+ghost use Rattle.text.specs.Names.{nameBytes, nameAt};
 ghost use Rattle.cut.specs.Cut.{same};
 ghost use Rattle.read.specs.Operands.{indexAs, changeAs, registerAs, distanceAs, dollarAs, operandAs};
 ghost use Rattle.read.specs.Line.{numberAs, opcodeFrom, classFor, lineAs};
@@ -12,8 +12,8 @@ use avr::Opcode;
 use avr::Operand;
 use avr::Register;
 use cut::helper::value;
-use text::names::LENGTHS;
 use text::names::NAMES;
+use text::names::name_length;
 
 fn index_as(c: u8) -> IndexRegister
     ensures { λ r. ⌜ r ≡ indexAs c ⌝ }
@@ -105,12 +105,12 @@ pub fn operand_as(s: &[u8], class: u8) -> Operand
 }
 
 // The mnemonic of number i is s.
-fn name_is(names: &[u8; 660], lengths: &[u8; 110], i: usize, s: &[u8]) -> bool
-    requires { ⌜ (now names ≡ nameBytes) × (now lengths ≡ nameLengths) × (i < 110) ⌝ }
+fn name_is(names: &[u8; 770], i: usize, s: &[u8]) -> bool
+    requires { ⌜ (now names ≡ nameBytes) × (i < 110) ⌝ }
     ensures { λ r. ⌜ r ≡ same (nameAt i) (now (s .entry)) ⌝ }
 {
-    let a = i * 6;
-    let e = a + lengths[i] as usize;
+    let a = i * 7 + 1;
+    let e = a + name_length(names, i);
     let all = &names[..];
     cut::equal(&all[a..e], s)
 }
@@ -120,10 +120,9 @@ fn number_as(s: &[u8]) -> usize
     ensures { λ r. ⌜ (r ≡ numberAs (now (s .entry))) × (r ≤ 110) ⌝ }
 {
     let names = NAMES;
-    let lengths = LENGTHS;
     let mut i = 0;
     while i < 110 {
-        if name_is(&names, &lengths, i, s) {
+        if name_is(&names, i, s) {
             return i;
         }
         i += 1;

@@ -2,7 +2,7 @@
 --     opened, closed   a `&mut Reader` is opened, which gives its cell, what it owns and the facts of its fields, and closed at another reader
 --     looked, shut     a `&Reader` is looked into, and shut again as it was
 --     parted           what a reader owns is had once more, field by field, in the order in which the functions of `walk` take them
---     moved            what a reader owns at another place
+--     moved            what a reader owns at another place, with other counts
 use mathlib.Core.Path.{_≡_}
 use Prim.Native.Nat.{ℕ, _<_, _^_}
 use mathlib.Core.List.{List, [], _∷_}
@@ -36,6 +36,9 @@ use Rattle.avr.proofs.Place as K
 use Rattle.avr.proofs.Place.Laws as K′
 use Rattle.avr.proofs.Target as X
 use Rattle.avr.proofs.Target.Laws as X′
+use Rattle.walk.specs.declared.Counts.{Counts}
+use Rattle.walk.proofs.Counts as N
+use Rattle.walk.proofs.Counts.Laws as N′
 use Rattle.reader.specs.declared.Reader.{Reader}
 use Rattle.reader.proofs.Reader as T
 use Rattle.reader.proofs.Reader.Laws as T′
@@ -71,7 +74,7 @@ module _ (a : NamedLft) where
   L = T′.the-laws a
 
   abbrev pub fields : Reader → Values (D .parts)
-  fields h = (h .image, (h .place, (h .target, tt)))
+  fields h = (h .image, (h .place, (h .target, (h .counts, tt))))
 
   abbrev pub Own : Reader → Fml
   Own h = T.the-row a .own h (mach h ∷ [])
@@ -86,6 +89,14 @@ module _ (a : NamedLft) where
 
   pub place-sound : (h : Reader) → Known h → WT (K′.lowered (h .place))
   place-sound h g = (record { fits = LL.owed K.the-type K′.the-laws (h .place) _ (LL.owed D L h _ g .1 .0) .0 .1 }, (tt, tt))
+
+  pub counts-known : (h : Reader) → Known h → Is N.the-row (h .counts) (N′.lowered (h .counts) ∷ [])
+  counts-known h g = LL.owed D L h _ g .1 .1 .1 .0
+
+  pub counts-sound : (h : Reader) → Known h → WT (N′.lowered (h .counts))
+  counts-sound h g =
+      let k = LL.owed N.the-type N′.the-laws (h .counts) _ (counts-known h g) in
+      (record { fits = k .0 .1 }, (record { fits = k .1 .0 .1 }, (record { fits = k .1 .1 .0 .1 }, tt)))
 
 module _ {M : Type 1} {𝓤 : URA M} {H : Heap 𝓤} {A : Atoms 𝓤} {U : Type 0} {W : Given 𝓤 H A} {Γ : List (Item 𝓤)} {G : Goal 𝓤 H} where
   pub parted : U → (a : NamedLft) (h : Reader) → Step U W (‵ (all-own (D a .parts) (L a) (fields a h)) ∷ ‵ (Own a h) ∷ Γ) G (‵ (Own a h) ∷ Γ) G
@@ -119,12 +130,15 @@ module _ {M : Type 1} {𝓤 : URA M} {H : Heap 𝓤} {A : Atoms 𝓤} {U : Type 
         → Step U W (‵ (flft κ q) ∷ Γ) G (‵ (fat p (T′.mir erased) b o (mach h)) ∷ ‵ (Own (behindAt κ′) h) ∷ ‵ (fobor κ q (partAt (B κ′) p h b o)) ∷ Γ) G
     shut t z p h = step (λ s. use1 W (‵ (cellAt p (B κ′ .mir) (mach h ∷ []) b o)) (W .laws .at-raw p (T′.mir erased) b o (mach h)) $ shuts t z (B κ′) p h (mach h ∷ []) b o $ s)
 
--- a reader at another place
-abbrev pub movedTo : Place → Reader → Reader
-movedTo p h = record { image = h .image; place = p; target = h .target }
+-- a reader at another place, with other counts
+abbrev pub movedTo : Place → Counts → Reader → Reader
+movedTo p c h = record { image = h .image; place = p; target = h .target; counts = c }
 
-pub moved : {M : Type 1} (𝓤 : URA M) (H : Heap 𝓤) (A : Atoms 𝓤) (W : Given 𝓤 H A) (a : NamedLft) (h : Reader) (p : Place) → Is K.the-row p (K′.lowered p ∷ [])
-    → ent 𝓤 (sem 𝓤 H A (Own a h)) (sem 𝓤 H A (Own a (movedTo p h)))
-moved 𝓤 H A W a h p is =
+pub moved : {M : Type 1} (𝓤 : URA M) (H : Heap 𝓤) (A : Atoms 𝓤) (W : Given 𝓤 H A) (a : NamedLft) (h : Reader) (p : Place) (c : Counts)
+    → Is K.the-row p (K′.lowered p ∷ []) → Is N.the-row c (N′.lowered c ∷ []) → ent 𝓤 (sem 𝓤 H A (Own a h)) (sem 𝓤 H A (Own a (movedTo p c h)))
+moved 𝓤 H A W a h p c is counted =
+    let there = movedTo p (h .counts) h in
     qed W (‵ (Own a h) ∷ []) ∵ owned ! K.the-row (Is K.the-row) (LL.makes K.the-type K′.the-plain 𝓤 H A) p (K′.lowered p ∷ []) is $ move ! (1 ∷ 0 ∷ []) $
-    by ! (own-put 𝓤 H A W (D a) (L a) 1 (fields a h) p (mach h))
+    use2 W (‵ (Own a there)) (own-put 𝓤 H A W (D a) (L a) 1 (fields a h) p (mach h)) $
+    owned ! N.the-row (Is N.the-row) (LL.makes N.the-type N′.the-plain 𝓤 H A) c (N′.lowered c ∷ []) counted $ move ! (1 ∷ 0 ∷ []) $
+    by ! (own-put 𝓤 H A W (D a) (L a) 3 (fields a there) c (mach there))

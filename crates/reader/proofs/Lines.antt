@@ -12,19 +12,15 @@ use borrow.Author.Tests.{ltb-true, ltb-false}
 use Rattle.avr.specs.declared.Line.{Line}
 use Rattle.avr.specs.declared.Line.the-variants as line
 use Rattle.avr.specs.declared.Target.{Target}
-use Rattle.manual.specs.Lines.{limit, lengthOf, linesFrom, lines, begunBefore}
+use Rattle.manual.specs.Lines.{limit, lengthOf, linesFrom, lines, begunBefore, countBefore}
 use Rattle.walk.specs.Theorems.{isEnd, total}
 use Rattle.walk.proofs.At.{at-length, unroll-at, count-step, count-past, end-over, end-past, is-end, ends-at-length, line-inside, left-none, lines-within, count-within}
 use Rattle.walk.proofs.Theorems.{over-long-has-no-lines, over-long-counts-none}
 use Rattle.reader.specs.declared.Reader.{Reader}
 use Rattle.reader.specs.State.{begin, lineHere, after, countHere}
-use Rattle.reader.specs.Calls.{Looks, Passes, Walks, none, next}
-
-abbrev flagOf : Reader → Bool
-flagOf r = r .target .«has_16_bit_lds_sts»
-
-abbrev bytesOf : Reader → List ℕ
-bytesOf r = now (r .image)
+use Rattle.reader.specs.Calls.{Looks, Passes, Walks, none, next, at-start}
+use Rattle.reader.proofs.States.{flagOf, bytesOf}
+use Rattle.reader.proofs.Counted.{count-is-the-walks, walked-is-reached}
 
 -- the lines that are left
 abbrev left : Reader → List Line
@@ -99,9 +95,10 @@ module _ (image : RefT (List ℕ)) (target : Target) (ls : List Line) (u : Reade
 
   -- THE COUNT IS THE WALK'S: it is the number of the lines passed
   pub count-is-passed : countHere u ≡ length ls
-  count-is-passed = go (ltb limit (length (now image))) refl
+  count-is-passed =
+      count-is-the-walks u (walked-is-reached (begin image target) u ls (at-start {image = image} {target = target} refl) w) ∙ go (ltb limit (length (now image))) refl
     where
-      go : (b : Bool) → ltb limit (length (now image)) ≡ b → countHere u ≡ length ls
+      go : (b : Bool) → ltb limit (length (now image)) ≡ b → countBefore (flagOf u) (bytesOf u) (u .place .at) ≡ length ls
       go true f =
           let over = ltb-true limit (length (now image)) f in
           let same = never-elsewhere (begin image target) u ls w in

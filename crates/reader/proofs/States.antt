@@ -8,20 +8,20 @@ use lib.ListN.{length, getD}
 use denote.Ref.{RefT, now}
 use Rattle.avr.specs.declared.Line.{Line}
 use Rattle.avr.specs.declared.Line.the-variants as line
-use Rattle.avr.specs.declared.Place.{Place}
 use Rattle.avr.specs.declared.Target.{Target}
 use Rattle.manual.specs.Choice.{pick}
 use Rattle.manual.specs.Lines.{limit, isByte, tailAfter}
 use Rattle.walk.specs.Theorems.{isEnd}
+use Rattle.walk.specs.Counts.{counted}
 use Rattle.walk.proofs.At.{at-here, end-over, end-past, stays-at-end, is-end, line-inside, first-left}
 use Rattle.reader.specs.declared.Reader.{Reader}
 use Rattle.reader.specs.State.{begin, rewound, lineHere, after}
 use Rattle.reader.specs.Calls.{Looks, Passes, Goes, rests, looks, passes}
 
-abbrev flagOf : Reader → Bool
+abbrev pub flagOf : Reader → Bool
 flagOf r = r .target .«has_16_bit_lds_sts»
 
-abbrev bytesOf : Reader → List ℕ
+abbrev pub bytesOf : Reader → List ℕ
 bytesOf r = now (r .image)
 
 -- LOOKING TWICE answers twice the same. This is more than that a definition equals itself: the second look is of the reader that the first one
@@ -29,14 +29,15 @@ bytesOf r = now (r .image)
 pub looking-twice : (r s t : Reader) (l m : Line) → Looks r l s → Looks s m t → (l ≡ m) × (t ≡ r)
 looking-twice r s t l m p q = (p .0 ∙ sym (ap lineHere (p .1)) ∙ sym (q .0), q .1 ∙ p .1)
 
--- AT THE END a look answers end, and a pass stays
+-- AT THE END a look answers end, and a pass stays and counts nothing
 pub end-answers-end : (r : Reader) → length (bytesOf r) ≤ r .place .at → lineHere r ≡ line.End
 end-answers-end r h = end-past (flagOf r) (bytesOf r) (r .place .at) (r .place .tail) h
 
 pub end-stays : (r s : Reader) → lineHere r ≡ line.End → Passes r s → s ≡ r
 end-stays r s e p =
-    p ∙ ap (λ (q : Place). record { image = r .image; place = q; target = r .target })
-    (stays-at-end (flagOf r) (bytesOf r) (r .place .at) (r .place .tail) e)
+    let place = stays-at-end (flagOf r) (bytesOf r) (r .place .at) (r .place .tail) e in
+    let here : after r ≡ r = λ i. record { image = r .image; place = place i; target = r .target; counts = counted (e i) (r .counts) } in
+    p ∙ here
 
 -- the reader of too long an image answers end
 pub ends-over-long : (r : Reader) → limit < length (bytesOf r) → lineHere r ≡ line.End

@@ -9,6 +9,7 @@ use Rattle.avr.specs.declared.LineWritten.{LineWritten}
 use Rattle.avr.specs.declared.Target.{Target}
 use Rattle.manual.specs.Answers.{ofBegun, ofLineWritten}
 use Rattle.manual.specs.Lines.{begins}
+use Rattle.walk.specs.declared.Counts.{Counts}
 use Rattle.walk.proofs.Unique.{may-begin-unique}
 use Rattle.listing.proofs.Unique.{write-line-unique}
 use Rattle.reader.specs.declared.Reader.{Reader}
@@ -33,6 +34,9 @@ module _ (r : Reader) where
 
   pub pass-unique : (a b : Reader) → a ≡ after r → b ≡ after r → a ≡ b
   pass-unique = one-answer
+
+  pub counts-unique : (a b : Counts) → a ≡ r .counts → b ≡ r .counts → a ≡ b
+  counts-unique = one-answer
 
   pub count-unique : (m n : ℕ) → m ≡ countHere r → n ≡ countHere r → m ≡ n
   count-unique = one-answer

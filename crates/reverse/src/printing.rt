@@ -11,7 +11,6 @@ use avr::Str;
 use avr::Strings;
 use decode::helper::Found;
 use decode::helper::find_one;
-use text::names::LENGTHS;
 use text::names::NAMES;
 
 fn row_prints(i: usize, form: u32, w: u16, e: u16, line: &[u8]) -> bool
@@ -19,7 +18,7 @@ fn row_prints(i: usize, form: u32, w: u16, e: u16, line: &[u8]) -> bool
     ensures { λ r. ⌜ r ≡ same (textOf (rowInstruction (rowAt i) w e)) (now (line .entry)) ⌝ }
 {
     let mut out = [0u8; 21];
-    let n = text::put_row(&NAMES, &LENGTHS, i, form, w, e, &mut out, 0);
+    let n = text::put_row(&NAMES, i, form, w, e, &mut out, 0);
     cut::equal(&out[..n], line)
 }
 
@@ -32,6 +31,7 @@ fn bytes_print(bytes: &[u8], flag: bool, line: &[u8]) -> bool
             form,
             word,
             extra,
+            length: _,
         } => row_prints(row, form, word, extra, line),
         Found::InvalidOpcode(_) => false,
         Found::Short(_) => false,

@@ -6,7 +6,7 @@ use Prim.Native.Nat.{ℕ, zero, suc, _+_, _-_, _*_, _/_, _≤_, _<_}
 use native.Mathlib.Omega.{arith}
 use native.Mathlib.Numerals.{add-one}
 use lib.Dec.{leb}
-use lib.ListN.{length, getD, drop, drop-of-length-le}
+use lib.ListN.{length, getD, take, drop, drop-of-length-le}
 use lib.Seq.{drop-cons}
 use borrow.Author.Tests.{le-leb, lt-leb, leb-true}
 use Rattle.manual.specs.Choice.{pick, both, either}
@@ -86,3 +86,9 @@ digits-drop [] zero e = e
 digits-drop [] (suc k) e = e
 digits-drop (b ∷ bs) zero e = e
 digits-drop (b ∷ bs) (suc k) e = digits-drop bs k (both-true (isDigit b) (allDigits bs) e .1)
+
+pub digits-take : (k : ℕ) (s : List ℕ) → allDigits s ≡ true → allDigits (take k s) ≡ true
+unfolding allDigits
+digits-take zero s e = refl
+digits-take (suc k) [] e = refl
+digits-take (suc k) (b ∷ bs) e = let p = both-true (isDigit b) (allDigits bs) e in rw (p .0) (digits-take k bs (p .1))

@@ -8,7 +8,9 @@ use Rattle.decode.proofs.decode.Statement.{statement}
 use Rattle.decode.proofs.decode.Tie as tie
 
 instruction-requires : tie.Need-instruction-requires
-instruction-requires c κs = rw (c .before .found .given .1) at (c .before .before .before .find-one .ensures .1)
+instruction-requires c κs =
+    let k = (rw (c .before .found .given .1) at (c .before .before .before .find-one .ensures .1)) in
+    (k .0, k .1)
 
 returns : tie.Need-returns
 returns c =

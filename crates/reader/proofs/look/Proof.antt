@@ -14,7 +14,7 @@ use ghost.Atoms.{Atoms, sem}
 use contract.Lifetimes.{AllOutlive}
 use contract.Monad.{Fun, fact}
 use contract.Running.{givenOf, tables, tablesOf}
-use types.Kit.{Given, ‵, raw, _⊛_, ⋆, some, later, _$_, _∵_, !, qed, by, move, keep, use1, use2, split, join, pick, fjoin, fjoin3, feqI, suffices, frame, await, done}
+use types.Kit.{Given, ‵, raw, _⊛_, ⋆, some, later, _$_, _∵_, !, qed, by, move, keep, drop, use1, use2, split, join, pick, fsplit, fjoin, fjoin3, feqI, suffices, frame, await, done}
 use types.Part.{whole, sub, look-in}
 use types.Run.{look as see, init, forget, stop, hop, fld, from, load, of-opd, and-then, no-more, assigns, land, returns, enter, alloc1, alloc0, params1, pass1, pass0, free1, free0}
 use sound.Laws.{∗emp}
@@ -22,7 +22,7 @@ use sound.WpLaws.{FmC, fmOf, WpFn-mono}
 use denote.RattleType.{owns}
 use denote.Laws.{Is, shows}
 use denote.Memory.{partAt}
-use denote.Ref.{ShrRef, ptr-vals, shr-tells, now}
+use denote.Ref.{RefT, ShrRef, ptr-vals, shr-tells, now}
 use denote.Steps.{peeks, heard, nothing}
 use denote.Enum.Laws as EL
 use denote.Triple.Statement.{Contract, Triple}
@@ -34,6 +34,8 @@ use denote.Triple.Table.{entered, cited}
 use denote.Triple.Walked.{says, Stays, stay-none-ref, walkOf, goes-none-ref, ends-at, walked, walk-meets}
 use denote.Exit.{yes}
 use Rattle.avr.specs.declared.Line.{Line}
+use Rattle.avr.specs.declared.Place.{Place}
+use Rattle.avr.specs.declared.Target.{Target}
 use Rattle.avr.proofs.Line as S
 use Rattle.avr.proofs.Line.Laws as S′
 use Rattle.avr.proofs.Place.Laws as K′
@@ -44,7 +46,7 @@ use Rattle.walk.proofs.line_at.Symbol.{name as #walk·line-at}
 use Rattle.walk.proofs.line_at.Met as callee-thm
 use Rattle.reader.specs.declared.Reader.{Reader}
 use Rattle.reader.specs.State.{lineHere}
-use Rattle.reader.proofs.Held.{behindAt, B, behind, at, lent, slice, fields, image-sound, place-sound, parted, looked, shut}
+use Rattle.reader.proofs.Held.{behindAt, B, behind, at, lent, slice, image-sound, place-sound, parted, looked, shut}
 use Rattle.reader.proofs.look.Key.{name as #reader·look}
 use Rattle.reader.proofs.look as look
 use Rattle.reader.proofs.look.Statement as stated
@@ -66,11 +68,14 @@ module _ {M : Type 1} (𝓤 : URA M) (H : Heap 𝓤) (A : Atoms 𝓤) (W : Given
   abbrev passed : Vals callee.signature (κ′, tt)
   passed = (slice h ∷ [], (K′.lowered (h .place) ∷ [], (X′.lowered (h .target) ∷ [], tt)))
 
-  abbrev to : Callee 𝓤 H A mem run .Ghost
-  to = (((κ′, tt), (q′, tt), tt, fields (behindAt κ′) h, passed), tt)
+  abbrev args : RefT (List ℕ) × (Place × (Target × Unit {0}))
+  args = (h .image, (h .place, (h .target, tt)))
 
-  said : (r : Line) → ent 𝓤 (ensured 𝓤 H A callee.ended (callee.clauses 𝓤 H A mem run) (κ′, tt) (fields (behindAt κ′) h) tt r) (fact 𝓤 (r ≡ lineHere h))
-  said r = exE 𝓤 _ (λ ws. snd∗ 𝓤 (sem 𝓤 H A (lasts callee.ended (κ′, tt) (fields (behindAt κ′) h) ws)) (fact 𝓤 (r ≡ lineHere h)))
+  abbrev to : Callee 𝓤 H A mem run .Ghost
+  to = (((κ′, tt), (q′, tt), tt, args, passed), tt)
+
+  said : (r : Line) → ent 𝓤 (ensured 𝓤 H A callee.ended (callee.clauses 𝓤 H A mem run) (κ′, tt) args tt r) (fact 𝓤 (r ≡ lineHere h))
+  said r = exE 𝓤 _ (λ ws. snd∗ 𝓤 (sem 𝓤 H A (lasts callee.ended (κ′, tt) args ws)) (fact 𝓤 (r ≡ lineHere h)))
 
   exits : (r : Line) (u : Val) → r ≡ lineHere h → ent 𝓤 (⋆ 𝓤 H A (‵ (S.the-row .own r (u ∷ [])) ∷ (‵ (flft κ′ q′) ⊛ ‵ ftrue) ∷ ‵ (flft κ q) ∷ ‵ (fshr-bor κ (λ s. partAt (B κ′) s h b o)) ∷ ‵ (fres γ (B κ′ .coded .code h)) ∷ [])) (Post u)
   exits r u e =
@@ -88,11 +93,14 @@ module _ {M : Type 1} (𝓤 : URA M) (H : Heap 𝓤) (A : Atoms 𝓤) (W : Given
         assigns ! (of-opd ! (load ! (from ! (hop ! (see ! 12 refl) (fld ! refl (stop !)))) (look-in ! 0 (sub ! 0 refl (whole !))))) (from ! (stop !)) (init ! 10 refl (tt, image-sound (behindAt κ′) h g)) $
         assigns ! (of-opd ! (load ! (from ! (hop ! (see ! 12 refl) (fld ! refl (stop !)))) (look-in ! 0 (sub ! 1 refl (whole !))))) (from ! (stop !)) (init ! 8 refl (tt, place-sound (behindAt κ′) h g)) $
         assigns ! (of-opd ! (load ! (from ! (hop ! (see ! 12 refl) (fld ! refl (stop !)))) (look-in ! 0 (sub ! 2 refl (whole !))))) (from ! (stop !)) (init ! 6 refl (tt, (tt, tt))) $
-        move ! (1 ∷ []) $ parted ! (behindAt κ′) h $ move ! (2 ∷ 1 ∷ 3 ∷ []) $ shut κ κ′ q q′ b o γ ! tt p h $
+        move ! (1 ∷ []) $ parted ! (behindAt κ′) h $
+        -- what the callee is passed is without the counts
+        fsplit ! $ move ! (1 ∷ []) $ fsplit ! $ move ! (1 ∷ []) $ fsplit ! $ move ! (1 ∷ []) $ drop ! $ nothing ! $ move ! (1 ∷ 0 ∷ []) $ fjoin ! $ move ! (1 ∷ 0 ∷ []) $ fjoin ! $ move ! (1 ∷ 0 ∷ []) $ fjoin ! $
+        move ! (2 ∷ 1 ∷ 3 ∷ []) $ shut κ κ′ q q′ b o γ ! tt p h $
         -- [the token; what the callee is passed; the fractured borrow; 'a's token; res; _4; …]
         move ! (3 ∷ 1 ∷ []) $ use2 W (raw (Callee 𝓤 H A mem run .pre to)) (∗emp 𝓤 _) $
         calls-at ! fm (Callee 𝓤 H A mem run) known to (and-then ! (load ! (from ! (stop !)) (see ! 8 refl)) (and-then ! (load ! (from ! (stop !)) (see ! 6 refl)) (and-then ! (load ! (from ! (stop !)) (see ! 4 refl)) (no-more !)))) (λ u.
-        use1 W (later (some (λ (r : Line). ((‵ (flft κ′ q′) ⊛ ‵ ftrue) ⊛ ‵ (S.the-row .own r (u ∷ []))) ⊛ raw (ensured 𝓤 H A callee.ended (callee.clauses 𝓤 H A mem run) (κ′, tt) (fields (behindAt κ′) h) tt r)))) (id⊢ 𝓤 _) $ await ! tt $ pick ! (λ r.
+        use1 W (later (some (λ (r : Line). ((‵ (flft κ′ q′) ⊛ ‵ ftrue) ⊛ ‵ (S.the-row .own r (u ∷ []))) ⊛ raw (ensured 𝓤 H A callee.ended (callee.clauses 𝓤 H A mem run) (κ′, tt) args tt r)))) (id⊢ 𝓤 _) $ await ! tt $ pick ! (λ r.
         split ! $ move ! (1 ∷ []) $ use1 W (raw (fact 𝓤 (r ≡ lineHere h))) (said r) $ heard ! (r ≡ lineHere h) (λ e. split ! $ move ! (1 ∷ []) $
         peeks ! S.the-row (Is S.the-row) (shows 𝓤 H A S.the-row) r (u ∷ []) (λ is.
         land ! (from ! (stop !)) (init ! 13 refl (EL.lawful S.the-type S′.the-laws 𝓤 H A W tt .typed r _ is .0)) $

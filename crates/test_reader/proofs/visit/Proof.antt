@@ -155,7 +155,7 @@ module _ {M : Type 1} (𝓤 : URA M) (H : Heap 𝓤) (A : Atoms 𝓤) (W : Given
   abbrev to-rewind : ℕ → GName → ℕ → Reader → Rewind 𝓤 H A at-mem run .Ghost
   to-rewind α γ l h = ((lfts α, shares, (meet-⊑-right (α ∷ []) κ, tt), lent l 0 γ h, at l 0), tt)
 
-  module _ (𝓣 : Tables 𝓤 H) (known-print : Triple 𝓤 (𝓣 .C #test-reader·print-looks) (Print 𝓤 H A at-mem run)) (known-pass : Triple 𝓤 (𝓣 .C #reader·pass) (Pass 𝓤 H A at-mem run)) (known-rewind : Triple 𝓤 (𝓣 .C #reader·rewind) (Rewind 𝓤 H A at-mem run)) (known-says : Triple 𝓤 (𝓣 .C #test-reader·print-rewound) (Says 𝓤 H A at-mem run)) (l₀ l₁ l₂ l₃ l₄ l₅ l₆ l₇ l₈ l₉ l₁₀ l₁₁ l₁₂ l₁₃ l₁₄ : ℕ) where
+  module _ (𝓣 : Tables 𝓤 H) (known-print : Triple 𝓤 (𝓣 .C #test-reader·print-looks) (Print 𝓤 H A at-mem run)) (known-pass : Triple 𝓤 (𝓣 .C #reader·pass) (Pass 𝓤 H A at-mem run)) (known-rewind : Triple 𝓤 (𝓣 .C #reader·rewind) (Rewind 𝓤 H A at-mem run)) (known-says : Triple 𝓤 (𝓣 .C #test-reader·print-rewound) (Says 𝓤 H A at-mem run)) (l₀ l₁ l₂ l₃ l₄ l₅ l₆ l₇ l₈ l₉ l₁₀ l₁₁ l₁₂ l₁₃ l₁₄ l₁₅ : ℕ) where
     abbrev C : Calls 𝓤 H
     C = 𝓣 .C
 
@@ -166,7 +166,7 @@ module _ {M : Type 1} (𝓤 : URA M) (H : Heap 𝓤) (A : Atoms 𝓤) (W : Given
     fm = fmOf 𝓤 H (W .laws) 𝓣
 
     abbrev En : Env 𝓤 H
-    En = placed (code.function .locals) (l₀ ∷ l₁ ∷ l₂ ∷ l₃ ∷ l₄ ∷ l₅ ∷ l₆ ∷ l₇ ∷ l₈ ∷ l₉ ∷ l₁₀ ∷ l₁₁ ∷ l₁₂ ∷ l₁₃ ∷ l₁₄ ∷ [])
+    En = placed (code.function .locals) (l₀ ∷ l₁ ∷ l₂ ∷ l₃ ∷ l₄ ∷ l₅ ∷ l₆ ∷ l₇ ∷ l₈ ∷ l₉ ∷ l₁₀ ∷ l₁₁ ∷ l₁₂ ∷ l₁₃ ∷ l₁₄ ∷ l₁₅ ∷ [])
 
     -- some reader stands in the local
     abbrev Some : Item 𝓤
@@ -175,7 +175,7 @@ module _ {M : Type 1} (𝓤 : URA M) (H : Heap 𝓤) (A : Atoms 𝓤) (W : Given
     -- the context, by what there is of the test's local
     abbrev Around : Fml → ℕ → List (Item 𝓤)
     Around test t =
-        Some ∷ ‵ (flft κ q) ∷ ‵ (froom (τ 14) l₁₄ 0) ∷ ‵ (fdies (τ 14) l₁₄) ∷ ‵ (froom (τ 13) l₁₃ 0) ∷ ‵ (fdies (τ 13) l₁₃) ∷ ‵ (froom (τ 12) l₁₂ 0) ∷ ‵ (fdies (τ 12) l₁₂) ∷ ‵ (froom (τ 11) l₁₁ 0) ∷ ‵ (fdies (τ 11) l₁₁)
+        Some ∷ ‵ (flft κ q) ∷ ‵ (froom (τ 15) l₁₅ 0) ∷ ‵ (fdies (τ 15) l₁₅) ∷ ‵ (froom (τ 14) l₁₄ 0) ∷ ‵ (fdies (τ 14) l₁₄) ∷ ‵ (froom (τ 13) l₁₃ 0) ∷ ‵ (fdies (τ 13) l₁₃) ∷ ‵ (froom (τ 12) l₁₂ 0) ∷ ‵ (fdies (τ 12) l₁₂) ∷ ‵ (froom (τ 11) l₁₁ 0) ∷ ‵ (fdies (τ 11) l₁₁)
         ∷ ‵ (froom (τ 10) l₁₀ 0) ∷ ‵ (fdies (τ 10) l₁₀) ∷ ‵ (froom (τ 9) l₉ 0) ∷ ‵ (fdies (τ 9) l₉) ∷ ‵ test ∷ ‵ (fdies (τ 8) l₈) ∷ ‵ (froom (τ 7) l₇ 0) ∷ ‵ (fdies (τ 7) l₇) ∷ ‵ (fat fullShare (τ 6) l₆ 0 (vint w64 t)) ∷ ‵ (fdies (τ 6) l₆)
         ∷ ‵ (fdies (τ 5) l₅) ∷ ‵ (froom (τ 4) l₄ 0) ∷ ‵ (fdies (τ 4) l₄) ∷ ‵ (froom (τ 3) l₃ 0) ∷ ‵ (fdies (τ 3) l₃) ∷ ‵ (fat fullShare (τ 2) l₂ 0 (X′.lowered g)) ∷ ‵ (fdies (τ 2) l₂) ∷ ‵ (froom (τ 1) l₁ 0) ∷ ‵ (fdies (τ 1) l₁)
         ∷ ‵ (froom (τ 0) l₀ 0) ∷ ‵ (fdies (τ 0) l₀) ∷ []
@@ -189,57 +189,64 @@ module _ {M : Type 1} (𝓤 : URA M) (H : Heap 𝓤) (A : Atoms 𝓤) (W : Given
     abbrev Turned : ℕ → Out → SProp 𝓤
     Turned t = afterTurn 𝓤 H (Below 𝓤 H A _<_ At t) (afterBlock 𝓤 H (afterSeq 𝓤 H (Wp 𝓤 H C Λ En text.t-6 (atReturn 𝓤 H En Post)) (atReturn 𝓤 H En Post)))
 
-    -- behind the loop: rewound, and looked at once more
+    -- behind the loop: looked at where it led, rewound, and looked at once more
     ends : (t : ℕ) → Sq W (Tested t) (runs C Λ En text.t-6 (atRet En Post))
     ends t =
-        pick ! (λ h. split ! $ assigns ! (addr ! (from ! (stop !))) (from ! (stop !)) (init ! 5 refl (tt, tt)) $ lends-pass κ q l₅ ! tt h (λ β δ.
+        pick ! (λ h. split ! $ assigns ! (addr ! (from ! (stop !))) (from ! (stop !)) (init ! 7 refl (tt, tt)) $ lends-look κ q l₅ ! tt h (λ α₀ γ₀.
+        nothing ! $ owned ! X.the-row (Is X.the-row) (LL.makes X.the-type X′.the-plain 𝓤 H A) g _ (LL.owes X.the-type X′.the-laws g (refl, tt)) $ fjoin ! $ move ! (1 ∷ 0 ∷ []) $ fjoin ! $
+        move ! (1 ∷ 0 ∷ []) $ use2 W (raw (Print 𝓤 H A at-mem run .pre (to-print α₀ γ₀ l₅ h))) (∗emp 𝓤 _) $
+        calls-at ! fm (Print 𝓤 H A at-mem run) known-print (to-print α₀ γ₀ l₅ h) (and-then ! (load ! (from ! (stop !)) (look ! 7 refl)) (and-then ! (load ! (from ! (stop !)) (look ! 28 refl)) (no-more !))) (λ r₀.
+        use1 W (later (some (λ (z : Unit {0}). (Tokens 𝓤 κ q α₀ ⊛ ‵ (unit .own z (r₀ ∷ []))) ⊛ raw (ensured 𝓤 H A print.ended (print.clauses 𝓤 H A at-mem run) (lfts α₀) (lent l₅ 0 γ₀ h .0, (g, tt)) tt z)))) (id⊢ 𝓤 _) $ await ! tt $ pick ! (λ z₀.
+        split ! $ move ! (1 ∷ []) $ drop ! $ split ! $ move ! (1 ∷ []) $ peeks ! unit (Is unit) (shows 𝓤 H A unit) z₀ (r₀ ∷ []) (λ none₀.
+        land ! (from ! (stop !)) (init ! 10 refl (nothing-lawful 𝓤 H A W .typed z₀ _ none₀ .0)) $ drop ! $ back-look κ q l₅ ! tt h α₀ $
+        assigns ! (addr ! (from ! (stop !))) (from ! (stop !)) (init ! 5 refl (tt, tt)) $ lends-pass κ q l₅ ! tt h (λ β δ.
         nothing ! $ move ! (1 ∷ 0 ∷ []) $ fjoin ! $ move ! (1 ∷ 0 ∷ []) $ use2 W (raw (Rewind 𝓤 H A at-mem run .pre (to-rewind β δ l₅ h))) (∗emp 𝓤 _) $
         calls-at ! fm (Rewind 𝓤 H A at-mem run) known-rewind (to-rewind β δ l₅ h) (and-then ! (load ! (from ! (stop !)) (look ! 5 refl)) (no-more !)) (λ w.
         use1 W (later (some (λ (y : Unit {0}). (Tokens 𝓤 κ q β ⊛ ‵ (unit .own y (w ∷ []))) ⊛ some (λ (ws : Reader × Unit {0}). ‵ (lasts rewind.ended (lfts β) (lent l₅ 0 δ h) ws) ⊛ raw (fact 𝓤 (ws .0 ≡ rewound h)))))) (id⊢ 𝓤 _) $ await ! tt $ pick ! (λ y.
         split ! $ move ! (1 ∷ []) $ pick ! (λ ws. split ! $ move ! (1 ∷ []) $ drop ! $ fsplit ! $ move ! (1 ∷ []) $ drop ! $ move ! (1 ∷ []) $ split ! $ move ! (1 ∷ []) $ peeks ! unit (Is unit) (shows 𝓤 H A unit) y (w ∷ []) (λ none.
-        land ! (from ! (stop !)) (init ! 9 refl (nothing-lawful 𝓤 H A W .typed y _ none .0)) $ drop ! $ move ! (0 ∷ 2 ∷ 3 ∷ 1 ∷ []) $ back-pass κ q l₅ ! tt (ws .0) β δ $
+        land ! (from ! (stop !)) (store ! 11 refl (nothing-lawful 𝓤 H A W .typed y _ none .0)) $ drop ! $ move ! (0 ∷ 2 ∷ 3 ∷ 1 ∷ []) $ back-pass κ q l₅ ! tt (ws .0) β δ $
         nothing ! $ nothing ! $ use2 W (raw (Says 𝓤 H A at-mem run .pre ((tt, tt, tt, tt, tt), tt))) (∗emp 𝓤 _) $
         calls-at ! fm (Says 𝓤 H A at-mem run) known-says ((tt, tt, tt, tt, tt), tt) (no-more !) (λ u.
         use1 W (later (some (λ (x : Unit {0}). (‵ ftrue ⊛ ‵ (unit .own x (u ∷ []))) ⊛ raw (ensured 𝓤 H A says.ended (says.clauses 𝓤 H A at-mem run) tt tt tt x)))) (id⊢ 𝓤 _) $ await ! tt $ pick ! (λ x.
         split ! $ move ! (1 ∷ []) $ drop ! $ split ! $ drop ! $ peeks ! unit (Is unit) (shows 𝓤 H A unit) x (u ∷ []) (λ none₁.
-        land ! (from ! (stop !)) (store ! 8 refl (nothing-lawful 𝓤 H A W .typed x _ none₁ .0)) $ drop ! $
+        land ! (from ! (stop !)) (store ! 10 refl (nothing-lawful 𝓤 H A W .typed x _ none₁ .0)) $ drop ! $
         assigns ! (addr ! (from ! (stop !))) (from ! (stop !)) (init ! 3 refl (tt, tt)) $ lends-look κ q l₅ ! tt (ws .0) (λ α γ.
         nothing ! $ owned ! X.the-row (Is X.the-row) (LL.makes X.the-type X′.the-plain 𝓤 H A) g _ (LL.owes X.the-type X′.the-laws g (refl, tt)) $ fjoin ! $ move ! (1 ∷ 0 ∷ []) $ fjoin ! $
         move ! (1 ∷ 0 ∷ []) $ use2 W (raw (Print 𝓤 H A at-mem run .pre (to-print α γ l₅ (ws .0)))) (∗emp 𝓤 _) $
-        calls-at ! fm (Print 𝓤 H A at-mem run) known-print (to-print α γ l₅ (ws .0)) (and-then ! (load ! (from ! (stop !)) (look ! 3 refl)) (and-then ! (load ! (from ! (stop !)) (look ! 26 refl)) (no-more !))) (λ r.
+        calls-at ! fm (Print 𝓤 H A at-mem run) known-print (to-print α γ l₅ (ws .0)) (and-then ! (load ! (from ! (stop !)) (look ! 3 refl)) (and-then ! (load ! (from ! (stop !)) (look ! 28 refl)) (no-more !))) (λ r.
         use1 W (later (some (λ (z : Unit {0}). (Tokens 𝓤 κ q α ⊛ ‵ (unit .own z (r ∷ []))) ⊛ raw (ensured 𝓤 H A print.ended (print.clauses 𝓤 H A at-mem run) (lfts α) (lent l₅ 0 γ (ws .0) .0, (g, tt)) tt z)))) (id⊢ 𝓤 _) $ await ! tt $ pick ! (λ z.
         split ! $ move ! (1 ∷ []) $ drop ! $ split ! $ move ! (1 ∷ []) $ peeks ! unit (Is unit) (shows 𝓤 H A unit) z (r ∷ []) (λ none₂.
-        land ! (from ! (stop !)) (store ! 8 refl (nothing-lawful 𝓤 H A W .typed z _ none₂ .0)) $ drop ! $ back-look κ q l₅ ! tt (ws .0) α $
-        assigns ! (of-opd ! (unit-lit !)) (from ! (stop !)) (init ! 30 refl (tt, tt)) $
-        returns ! (look ! 30 refl) $ forget ! 0 refl $ forget ! 3 refl $ forget ! 5 refl $ forget ! 7 refl $ forget ! 15 refl $ forget ! 19 refl $ forget ! 26 refl $ forget ! 30 refl $
-        move ! (30 ∷ 31 ∷ []) $ free1 ! $ move ! (28 ∷ 29 ∷ []) $ free1 ! $ move ! (26 ∷ 27 ∷ []) $ free1 ! $ move ! (24 ∷ 25 ∷ []) $ free1 ! $ move ! (22 ∷ 23 ∷ []) $ free1 ! $ move ! (0 ∷ 21 ∷ []) $ free1 ! $
-        move ! (18 ∷ 19 ∷ []) $ free1 ! $ move ! (16 ∷ 17 ∷ []) $ free1 ! $ move ! (14 ∷ 15 ∷ []) $ free1 ! $ move ! (12 ∷ 13 ∷ []) $ free1 ! $ move ! (10 ∷ 11 ∷ []) $ free1 ! $ move ! (8 ∷ 9 ∷ []) $ free1 ! $
-        move ! (6 ∷ 7 ∷ []) $ free1 ! $ move ! (4 ∷ 5 ∷ []) $ free1 ! $ move ! (2 ∷ 3 ∷ []) $ free1 ! $ free0 ! $ keep ! (1 ∷ []) $ by ! exits)))))))))))))
+        land ! (from ! (stop !)) (store ! 10 refl (nothing-lawful 𝓤 H A W .typed z _ none₂ .0)) $ drop ! $ back-look κ q l₅ ! tt (ws .0) α $
+        assigns ! (of-opd ! (unit-lit !)) (from ! (stop !)) (init ! 32 refl (tt, tt)) $
+        returns ! (look ! 32 refl) $ forget ! 0 refl $ forget ! 3 refl $ forget ! 5 refl $ forget ! 7 refl $ forget ! 9 refl $ forget ! 17 refl $ forget ! 21 refl $ forget ! 28 refl $ forget ! 32 refl $
+        move ! (32 ∷ 33 ∷ []) $ free1 ! $ move ! (30 ∷ 31 ∷ []) $ free1 ! $ move ! (28 ∷ 29 ∷ []) $ free1 ! $ move ! (26 ∷ 27 ∷ []) $ free1 ! $ move ! (24 ∷ 25 ∷ []) $ free1 ! $ move ! (0 ∷ 23 ∷ []) $ free1 ! $
+        move ! (20 ∷ 21 ∷ []) $ free1 ! $ move ! (18 ∷ 19 ∷ []) $ free1 ! $ move ! (16 ∷ 17 ∷ []) $ free1 ! $ move ! (14 ∷ 15 ∷ []) $ free1 ! $ move ! (12 ∷ 13 ∷ []) $ free1 ! $ move ! (10 ∷ 11 ∷ []) $ free1 ! $ move ! (8 ∷ 9 ∷ []) $ free1 ! $
+        move ! (6 ∷ 7 ∷ []) $ free1 ! $ move ! (4 ∷ 5 ∷ []) $ free1 ! $ move ! (2 ∷ 3 ∷ []) $ free1 ! $ free0 ! $ keep ! (1 ∷ []) $ by ! exits)))))))))))))))))
 
     turns : (t : ℕ) → Sq W (At t) (runs C Λ En text.turn-1 (anyQ (Turned t)))
     unfolding afterTurn
     turns t =
-        move ! (18 ∷ []) $ well-typed ! (λ wt. move ! (1 ∷ 2 ∷ 3 ∷ 4 ∷ 5 ∷ 6 ∷ 7 ∷ 8 ∷ 9 ∷ 10 ∷ 11 ∷ 12 ∷ 13 ∷ 14 ∷ 15 ∷ 16 ∷ 17 ∷ 18 ∷ 0 ∷ []) $
-        assigns ! (bin ! (lit ! tt) (load ! (from ! (stop !)) (look ! 18 refl)) tt) (from ! (stop !)) (init ! 14 refl (tt, tt)) $
-        first ! $ branches ! (load ! (from ! (stop !)) (look ! 14 refl))
+        move ! (20 ∷ []) $ well-typed ! (λ wt. move ! (1 ∷ 2 ∷ 3 ∷ 4 ∷ 5 ∷ 6 ∷ 7 ∷ 8 ∷ 9 ∷ 10 ∷ 11 ∷ 12 ∷ 13 ∷ 14 ∷ 15 ∷ 16 ∷ 17 ∷ 18 ∷ 19 ∷ 20 ∷ 0 ∷ []) $
+        assigns ! (bin ! (lit ! tt) (load ! (from ! (stop !)) (look ! 20 refl)) tt) (from ! (stop !)) (init ! 16 refl (tt, tt)) $
+        first ! $ branches ! (load ! (from ! (stop !)) (look ! 16 refl))
         (λ more. skips ! $ exec ! C Λ En lent-twice (anyQ (Turned t)) $ pick ! (λ h. split ! $
-        -- [the reader's cell; what it owns; the token; _14; …; _13; …; _12; …; _11; …; _10; …; _9; …; _8; …; _7; …; _6; …; _5's; _4; …; _3; …; _2; …; _1; …; _0; …]
-        assigns ! (addr ! (from ! (stop !))) (from ! (stop !)) (init ! 11 refl (tt, tt)) $ lends-look κ q l₅ ! tt h (λ α γ.
+        -- [the reader's cell; what it owns; the token; _15; …; _14; …; _13; …; _12; …; _11; …; _10; …; _9; …; _8; …; _7; …; _6; …; _5's; _4; …; _3; …; _2; …; _1; …; _0; …]
+        assigns ! (addr ! (from ! (stop !))) (from ! (stop !)) (init ! 13 refl (tt, tt)) $ lends-look κ q l₅ ! tt h (λ α γ.
         nothing ! $ owned ! X.the-row (Is X.the-row) (LL.makes X.the-type X′.the-plain 𝓤 H A) g _ (LL.owes X.the-type X′.the-laws g (refl, tt)) $ fjoin ! $ move ! (1 ∷ 0 ∷ []) $ fjoin ! $
         move ! (1 ∷ 0 ∷ []) $ use2 W (raw (Print 𝓤 H A at-mem run .pre (to-print α γ l₅ h))) (∗emp 𝓤 _) $
-        calls-at ! fm (Print 𝓤 H A at-mem run) known-print (to-print α γ l₅ h) (and-then ! (load ! (from ! (stop !)) (look ! 11 refl)) (and-then ! (load ! (from ! (stop !)) (look ! 26 refl)) (no-more !))) (λ u.
+        calls-at ! fm (Print 𝓤 H A at-mem run) known-print (to-print α γ l₅ h) (and-then ! (load ! (from ! (stop !)) (look ! 13 refl)) (and-then ! (load ! (from ! (stop !)) (look ! 28 refl)) (no-more !))) (λ u.
         use1 W (later (some (λ (x : Unit {0}). (Tokens 𝓤 κ q α ⊛ ‵ (unit .own x (u ∷ []))) ⊛ raw (ensured 𝓤 H A print.ended (print.clauses 𝓤 H A at-mem run) (lfts α) (lent l₅ 0 γ h .0, (g, tt)) tt x)))) (id⊢ 𝓤 _) $ await ! tt $ pick ! (λ x.
         split ! $ move ! (1 ∷ []) $ drop ! $ split ! $ move ! (1 ∷ []) $ peeks ! unit (Is unit) (shows 𝓤 H A unit) x (u ∷ []) (λ none.
-        land ! (from ! (stop !)) (init ! 14 refl (nothing-lawful 𝓤 H A W .typed x _ none .0)) $ drop ! $ back-look κ q l₅ ! tt h α $
-        assigns ! (addr ! (from ! (stop !))) (from ! (stop !)) (init ! 9 refl (tt, tt)) $ lends-pass κ q l₅ ! tt h (λ β δ.
+        land ! (from ! (stop !)) (init ! 16 refl (nothing-lawful 𝓤 H A W .typed x _ none .0)) $ drop ! $ back-look κ q l₅ ! tt h α $
+        assigns ! (addr ! (from ! (stop !))) (from ! (stop !)) (init ! 11 refl (tt, tt)) $ lends-pass κ q l₅ ! tt h (λ β δ.
         nothing ! $ move ! (1 ∷ 0 ∷ []) $ fjoin ! $ move ! (1 ∷ 0 ∷ []) $ use2 W (raw (Pass 𝓤 H A at-mem run .pre (to-pass β δ l₅ h))) (∗emp 𝓤 _) $
-        calls-at ! fm (Pass 𝓤 H A at-mem run) known-pass (to-pass β δ l₅ h) (and-then ! (load ! (from ! (stop !)) (look ! 9 refl)) (no-more !)) (λ w.
+        calls-at ! fm (Pass 𝓤 H A at-mem run) known-pass (to-pass β δ l₅ h) (and-then ! (load ! (from ! (stop !)) (look ! 11 refl)) (no-more !)) (λ w.
         use1 W (later (some (λ (y : Unit {0}). (Tokens 𝓤 κ q β ⊛ ‵ (unit .own y (w ∷ []))) ⊛ some (λ (ws : Reader × Unit {0}). ‵ (lasts pass.ended (lfts β) (lent l₅ 0 δ h) ws) ⊛ raw (fact 𝓤 (ws .0 ≡ after h)))))) (id⊢ 𝓤 _) $ await ! tt $ pick ! (λ y.
         split ! $ move ! (1 ∷ []) $ pick ! (λ ws. split ! $ move ! (1 ∷ []) $ drop ! $ fsplit ! $ move ! (1 ∷ []) $ drop ! $ move ! (1 ∷ []) $ split ! $ move ! (1 ∷ []) $ peeks ! unit (Is unit) (shows 𝓤 H A unit) y (w ∷ []) (λ none₂.
         -- [nothing; the tokens; the last reader; …]
-        land ! (from ! (stop !)) (store ! 15 refl (nothing-lawful 𝓤 H A W .typed y _ none₂ .0)) $ drop ! $ move ! (0 ∷ 2 ∷ 3 ∷ 1 ∷ []) $ back-pass κ q l₅ ! tt (ws .0) β δ $
-        assigns-last ! (bin ! (load ! (from ! (stop !)) (look ! 19 refl)) (lit ! tt) (one-left more)) (from ! (stop !)) (store ! 19 refl (tt, record { fits = less-fits (wt .1 .fits) })) $
-        forget ! 9 refl $ forget ! 11 refl $ forget ! 13 refl $ forget ! 15 refl $
+        land ! (from ! (stop !)) (store ! 17 refl (nothing-lawful 𝓤 H A W .typed y _ none₂ .0)) $ drop ! $ move ! (0 ∷ 2 ∷ 3 ∷ 1 ∷ []) $ back-pass κ q l₅ ! tt (ws .0) β δ $
+        assigns-last ! (bin ! (load ! (from ! (stop !)) (look ! 21 refl)) (lit ! tt) (one-left more)) (from ! (stop !)) (store ! 21 refl (tt, record { fits = less-fits (wt .1 .fits) })) $
+        forget ! 11 refl $ forget ! 13 refl $ forget ! 15 refl $ forget ! 17 refl $
         use2 W Some (exI 𝓤 (λ (h : Reader). sep 𝓤 (sem 𝓤 H A (Cell l₅ h)) (sem 𝓤 H A (Own (behindAt κ) h))) (ws .0)) $ again ! _<_ At t (t - 1) (lower more))))))))))))
         (λ over. jumps ! $ exec ! C Λ En text.t-6 (atRet En Post) $ ends t))
       where
@@ -262,24 +269,24 @@ module _ {M : Type 1} (𝓤 : URA M) (H : Heap 𝓤) (A : Atoms 𝓤) (W : Given
     walk : Is (ShrSlice (named 0) κ u8) s (v ∷ []) → n < 2 ^ 64 → ent 𝓤 (onEntry 𝓤 H A visit.signature (κ, tt) (q, tt) (s, (g, (n, tt))) vals) (WpFn 𝓤 H (𝓣 .C) (𝓣 .Λ) code.function (v ∷ X′.lowered g ∷ vint w64 n ∷ []) Post)
     walk p n-fits =
         qed W ((‵ (flft κ q) ⊛ ‵ ftrue) ∷ ‵ (owns (ShrSlice (named 0) κ u8 ∷ X.the-row ∷ u64 ∷ []) (s, (g, (n, tt))) vals) ∷ []) ∵ enter ! (𝓣 .C) (𝓣 .Λ) code.function (v ∷ X′.lowered g ∷ vint w64 n ∷ []) _ $
-        alloc1 ! (λ l₀. alloc1 ! (λ l₁. alloc1 ! (λ l₂. alloc1 ! (λ l₃. alloc1 ! (λ l₄. alloc1 ! (λ l₅. alloc1 ! (λ l₆. alloc1 ! (λ l₇. alloc1 ! (λ l₈. alloc1 ! (λ l₉. alloc1 ! (λ l₁₀. alloc1 ! (λ l₁₁. alloc1 ! (λ l₁₂. alloc1 ! (λ l₁₃. alloc1 ! (λ l₁₄. alloc0 ! $ params1 ! $
-        pass1 ! (init ! 26 refl (shr-slice-lawful 𝓤 H A W (named 0) κ u8 .typed s (v ∷ []) p .0)) $ pass1 ! (init ! 24 refl (tt, (tt, tt))) $ pass1 ! (init ! 22 refl (tt, record { fits = n-fits })) $ pass0 ! $
-        move ! (31 ∷ []) $ fsplit ! $ move ! (1 ∷ []) $ fsplit ! $ move ! (1 ∷ []) $ drop ! $ nothing ! $ move ! (1 ∷ 0 ∷ []) $ fjoin ! $ move ! (1 ∷ 0 ∷ []) $ fjoin ! $
-        move ! (31 ∷ 0 ∷ []) $ use2 W (raw (Start 𝓤 H A at-mem run .pre to-start)) (∗emp 𝓤 _) $
-        calls-at ! (fmOf 𝓤 H (W .laws) 𝓣) (Start 𝓤 H A at-mem run) known-start to-start (and-then ! (load ! (from ! (stop !)) (look ! 27 refl)) (and-then ! (load ! (from ! (stop !)) (look ! 25 refl)) (no-more !))) (λ u.
+        alloc1 ! (λ l₀. alloc1 ! (λ l₁. alloc1 ! (λ l₂. alloc1 ! (λ l₃. alloc1 ! (λ l₄. alloc1 ! (λ l₅. alloc1 ! (λ l₆. alloc1 ! (λ l₇. alloc1 ! (λ l₈. alloc1 ! (λ l₉. alloc1 ! (λ l₁₀. alloc1 ! (λ l₁₁. alloc1 ! (λ l₁₂. alloc1 ! (λ l₁₃. alloc1 ! (λ l₁₄. alloc1 ! (λ l₁₅. alloc0 ! $ params1 ! $
+        pass1 ! (init ! 28 refl (shr-slice-lawful 𝓤 H A W (named 0) κ u8 .typed s (v ∷ []) p .0)) $ pass1 ! (init ! 26 refl (tt, (tt, tt))) $ pass1 ! (init ! 24 refl (tt, record { fits = n-fits })) $ pass0 ! $
+        move ! (33 ∷ []) $ fsplit ! $ move ! (1 ∷ []) $ fsplit ! $ move ! (1 ∷ []) $ drop ! $ nothing ! $ move ! (1 ∷ 0 ∷ []) $ fjoin ! $ move ! (1 ∷ 0 ∷ []) $ fjoin ! $
+        move ! (33 ∷ 0 ∷ []) $ use2 W (raw (Start 𝓤 H A at-mem run .pre to-start)) (∗emp 𝓤 _) $
+        calls-at ! (fmOf 𝓤 H (W .laws) 𝓣) (Start 𝓤 H A at-mem run) known-start to-start (and-then ! (load ! (from ! (stop !)) (look ! 29 refl)) (and-then ! (load ! (from ! (stop !)) (look ! 27 refl)) (no-more !))) (λ u.
         use1 W (later (some (λ (r : Started). ((‵ (flft κ q) ⊛ ‵ ftrue) ⊛ ‵ (U.the-row α₀ .own r (u ∷ []))) ⊛ raw (ensured 𝓤 H A start.ended (start.clauses 𝓤 H A at-mem run) (κ, tt) (s, (g, tt)) tt r)))) (id⊢ 𝓤 _) $ await ! tt $ pick ! (λ r.
         split ! $ move ! (1 ∷ []) $ drop ! $ split ! $ split ! $ move ! (1 ∷ []) $ drop ! $ move ! (1 ∷ []) $ peeks ! (U.the-row α₀) (Is (U.the-row α₀)) (shows 𝓤 H A (U.the-row α₀)) r (u ∷ []) (λ is.
-        -- [what start gave; the token; _14; …]
+        -- [what start gave; the token; _15; …]
         let sound = LL.lawful (D (behindAt κ)) (L (behindAt κ)) 𝓤 H A W .typed (r .reader) _ (LL.owed (U.the-type α₀) (U′.the-laws α₀) r _ is .1 .0) .0 in
-        land ! (from ! (stop !)) (init ! 22 refl (LL.lawful (U.the-type α₀) (U′.the-laws α₀) 𝓤 H A W .typed r _ is .0)) $ rewrite ! 22 (λ (w : Val). ‵ (fat fullShare (U′.mir erased) l₄ 0 w)) (ap only (LL.tells (U.the-type α₀) (U′.the-laws α₀) r _ is)) refl $
-        assigns ! (of-opd ! (load ! (from ! (fld ! refl (stop !))) (look-in ! 22 (sub ! 1 refl (whole !))))) (from ! (stop !)) (init ! 16 refl sound) $
-        assigns ! (of-opd ! (load ! (from ! (stop !)) (look ! 16 refl))) (from ! (stop !)) (init ! 20 refl sound) $
-        assigns ! (of-opd ! (load ! (from ! (stop !)) (look ! 24 refl))) (from ! (stop !)) (init ! 18 refl (tt, record { fits = n-fits })) $
-        forget ! 28 refl $ forget ! 24 refl $ forget ! 22 refl $ forget ! 16 refl $
+        land ! (from ! (stop !)) (init ! 24 refl (LL.lawful (U.the-type α₀) (U′.the-laws α₀) 𝓤 H A W .typed r _ is .0)) $ rewrite ! 24 (λ (w : Val). ‵ (fat fullShare (U′.mir erased) l₄ 0 w)) (ap only (LL.tells (U.the-type α₀) (U′.the-laws α₀) r _ is)) refl $
+        assigns ! (of-opd ! (load ! (from ! (fld ! refl (stop !))) (look-in ! 24 (sub ! 1 refl (whole !))))) (from ! (stop !)) (init ! 18 refl sound) $
+        assigns ! (of-opd ! (load ! (from ! (stop !)) (look ! 18 refl))) (from ! (stop !)) (init ! 22 refl sound) $
+        assigns ! (of-opd ! (load ! (from ! (stop !)) (look ! 26 refl))) (from ! (stop !)) (init ! 20 refl (tt, record { fits = n-fits })) $
+        forget ! 30 refl $ forget ! 26 refl $ forget ! 24 refl $ forget ! 18 refl $
         use1 W (given (u ∷ [] ≡ LL.vals (U.the-type α₀) (U′.the-laws α₀) r) (‵ (all-own (U.the-type α₀ .parts) (U′.the-laws α₀) (r .answer, (r .reader, tt))))) (own-open 𝓤 H A W (U.the-type α₀) (U′.the-laws α₀) (r .answer, (r .reader, tt)) u) $ learn ! (λ _.
-        fsplit ! $ drop ! $ fsplit ! $ move ! (1 ∷ []) $ drop ! $ move ! (20 ∷ 0 ∷ 1 ∷ []) $
-        use2 W (Some 𝓣 known-print known-pass known-rewind known-says l₀ l₁ l₂ l₃ l₄ l₅ l₆ l₇ l₈ l₉ l₁₀ l₁₁ l₁₂ l₁₃ l₁₄) (exI 𝓤 (λ (h : Reader). sep 𝓤 (sem 𝓤 H A (Cell l₅ h)) (sem 𝓤 H A (Own (behindAt κ) h))) (r .reader)) $
-        first ! $ blocks ! $ loops ! 𝓣 _<_ (Nat·lt-wfRel .wf) (At 𝓣 known-print known-pass known-rewind known-says l₀ l₁ l₂ l₃ l₄ l₅ l₆ l₇ l₈ l₉ l₁₀ l₁₁ l₁₂ l₁₃ l₁₄) (turns 𝓣 known-print known-pass known-rewind known-says l₀ l₁ l₂ l₃ l₄ l₅ l₆ l₇ l₈ l₉ l₁₀ l₁₁ l₁₂ l₁₃ l₁₄) n)))))))))))))))))))
+        fsplit ! $ drop ! $ fsplit ! $ move ! (1 ∷ []) $ drop ! $ move ! (22 ∷ 0 ∷ 1 ∷ []) $
+        use2 W (Some 𝓣 known-print known-pass known-rewind known-says l₀ l₁ l₂ l₃ l₄ l₅ l₆ l₇ l₈ l₉ l₁₀ l₁₁ l₁₂ l₁₃ l₁₄ l₁₅) (exI 𝓤 (λ (h : Reader). sep 𝓤 (sem 𝓤 H A (Cell l₅ h)) (sem 𝓤 H A (Own (behindAt κ) h))) (r .reader)) $
+        first ! $ blocks ! $ loops ! 𝓣 _<_ (Nat·lt-wfRel .wf) (At 𝓣 known-print known-pass known-rewind known-says l₀ l₁ l₂ l₃ l₄ l₅ l₆ l₇ l₈ l₉ l₁₀ l₁₁ l₁₂ l₁₃ l₁₄ l₁₅) (turns 𝓣 known-print known-pass known-rewind known-says l₀ l₁ l₂ l₃ l₄ l₅ l₆ l₇ l₈ l₉ l₁₀ l₁₁ l₁₂ l₁₃ l₁₄ l₁₅) n))))))))))))))))))))
 
 pub visit-spec : {M : Type 1} → stated.statement M
 unfolding code.routine tablesOf

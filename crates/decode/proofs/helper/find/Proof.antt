@@ -2,9 +2,11 @@
 use mathlib.Core.Path.{_≡_, sym, ap, _∙_}
 use denote.Ref.{now}
 use borrow.Author.Needs.{needs}
+use Rattle.rows.specs.Columns.{formAt}
 use Rattle.decode.specs.Forms.{bytesFrom}
 use Rattle.rows.proofs.Forms.{form-in}
-use Rattle.decode.proofs.Steps.{short-2, invalid, two, short-4, four}
+use Rattle.decode.proofs.Shapes.{bytes-are}
+use Rattle.decode.proofs.Steps.{short-2, invalid, two, long, short-4, four}
 use Rattle.decode.proofs.helper.find.Statement.{statement}
 use Rattle.decode.proofs.helper.find.Tie as tie
 
@@ -31,10 +33,11 @@ returns-3 c =
     let f = b .before .before .before in
     let w = f .before in
     let s = w .before .before .before in
-    let k = form-in (f .scan .result) (search needs) (now (s .args .forms)) (s .pre .form) in (
+    let k = form-in (f .scan .result) (search needs) (now (s .args .forms)) (s .pre .form) in
+    let l = sym (b .form-bytes .ensures ∙ ap bytesFrom k) ∙ c .if3 .taken in (
       two (s .args .flag) (now (s .args .bytes)) (w .word-at .result) (f .scan .result) (search needs) (w .word-at .ensures) (f .scan .ensures) (search needs)
-          (sym (b .form-bytes .ensures ∙ ap bytesFrom k) ∙ c .if3 .taken),
-      (search needs, k),
+          l,
+      (search needs, k, sym l ∙ bytes-are _ (search needs)),
     )
 
 returns-4 : tie.Need-returns-4
@@ -57,11 +60,15 @@ returns-5 c =
     let f = b .before .before .before in
     let w = f .before in
     let s = w .before .before .before in
-    let k = form-in (f .scan .result) (search needs) (now (s .args .forms)) (s .pre .form) in (
+    let k = form-in (f .scan .result) (search needs) (now (s .args .forms)) (s .pre .form) in
+    let l : bytesFrom (formAt (f .scan .result)) ≡ 2 → ⊥ = λ e. t .if3 .left (b .form-bytes .ensures ∙ ap bytesFrom k ∙ e) in (
       four (s .args .flag) (now (s .args .bytes)) (w .word-at .result) (f .scan .result) (search needs) (w .word-at .ensures) (f .scan .ensures) (search needs)
-          (λ e. t .if3 .left (b .form-bytes .ensures ∙ ap bytesFrom k ∙ e))
-          (search needs) (c .word-at2 .result) (c .word-at2 .ensures),
-      (search needs, k),
+          l (search needs) (c .word-at2 .result) (c .word-at2 .ensures),
+      (
+        search needs,
+        k,
+        long (s .args .flag) (now (s .args .bytes)) (w .word-at .result) (f .scan .result) (search needs) (w .word-at .ensures) (f .scan .ensures) (search needs) l,
+      ),
     )
 
 pub find-spec : {M : Type 1} → statement M

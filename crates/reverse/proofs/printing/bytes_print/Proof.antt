@@ -7,7 +7,9 @@ use Rattle.reverse.proofs.printing.bytes_print.Statement.{statement}
 use Rattle.reverse.proofs.printing.bytes_print.Tie as tie
 
 row-prints-requires : tie.Need-row-prints-requires
-row-prints-requires c κs = rw (c .before .row .given .1) at (c .before .before .before .find-one .ensures .1)
+row-prints-requires c κs =
+    let k = (rw (c .before .row .given .1) at (c .before .before .before .find-one .ensures .1)) in
+    (k .0, k .1)
 
 returns : tie.Need-returns
 returns c =

@@ -11,8 +11,8 @@ use mir.Val.{SFits, Fits}
 use mir.Facts.{toZ-ofZ}
 use borrow.Author.Tests.{ltb-true}
 use borrow.Author.Needs.{needs, sfits-of}
-use Rattle.encode.proofs.numbers.magnitude.Statement.{statement}
-use Rattle.encode.proofs.numbers.magnitude.Tie as tie
+use Rattle.operands.proofs.magnitude.Statement.{statement}
+use Rattle.operands.proofs.magnitude.Tie as tie
 
 widen : {v : ℤ} → SFits w16 v → SFits w32 v
 widen f = sfits-of (omega (arith, f .sfits))
