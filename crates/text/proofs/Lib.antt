@@ -1,4 +1,3 @@
-pub mod Below
 pub mod NameTable
 pub mod Distance
 pub mod Lengths

@@ -1,8 +1,8 @@
 -- A dollar sign and the digits.
 use Rattle.put.proofs.Puts.{then}
 use borrow.Author.Needs.{needs}
-use Rattle.text.proofs.kinds.put_dollar4.Statement.{statement}
-use Rattle.text.proofs.kinds.put_dollar4.Tie as tie
+use Rattle.text.proofs.operand.put_dollar4.Statement.{statement}
+use Rattle.text.proofs.operand.put_dollar4.Tie as tie
 
 pub put-dollar4-spec : {M : Type 1} → statement M
 put-dollar4-spec =
