@@ -1,5 +1,4 @@
 pub mod NameTable
-pub mod Distance
 pub mod Lengths
 pub mod RowText
 pub mod Longest
