@@ -21,13 +21,13 @@ ghost use Rattle.listing.specs.Parts.{partLines};
 use decode::helper::Found;
 use decode::helper::find;
 use put::lent::HEX;
-use put::lent::put_hex2;
 use put::lent::put_hex4;
 use put::lent::put_hex6;
 use put::put_both;
 use put::put_byte;
 use put::put_bytes;
 use put::put_count;
+use put::put_hex2;
 use rows::spans::SPANS;
 use rows::tables::FORMS;
 use rows::tables::MASKS;
@@ -62,13 +62,13 @@ fn put_word(hex: &[u8; 512], out: &mut [u8], o: usize, at: usize, w: u16) -> usi
     put_byte(&mut *out, r, 10)
 }
 
-fn put_one(hex: &[u8; 512], out: &mut [u8], o: usize, at: usize, b: u8) -> usize
-    requires { ⌜ (now hex ≡ hexPairs) × (o + 18 ≤ length (now out)) × (at < 16777216) ⌝ }
+fn put_one(out: &mut [u8], o: usize, at: usize, b: u8) -> usize
+    requires { ⌜ (o + 18 ≤ length (now out)) × (at < 16777216) ⌝ }
     ensures { λ r. ⌜ Wrote at (line.Byte b ∷ []) (now (out .entry)) o (now (out .exit)) 1 r ⌝ }
 {
-    let p = put_head(hex, &mut *out, o, at);
+    let p = put_head(&HEX, &mut *out, o, at);
     let q = put_bytes(&mut *out, p, b".byte $");
-    let r = put_hex2(hex, &mut *out, q, b);
+    let r = put_hex2(&mut *out, q, b);
     put_byte(&mut *out, r, 10)
 }
 
@@ -199,7 +199,7 @@ fn put_tail(image: &[u8], base: usize, from: usize, out: &mut [u8], o: usize) ->
     let mut at = from;
     let mut next = o;
     while at < image.len() {
-        let n = put_one(&HEX, &mut line, 0, base + at, image[at]);
+        let n = put_one(&mut line, 0, base + at, image[at]);
         next = put_fitting(&mut *out, next, &line[..n]);
         at += 1;
     }
@@ -307,7 +307,7 @@ pub(crate) fn put_line(image: &[u8], at: usize, tail: bool, flag: bool, out: &mu
     ensures { λ r. ⌜ Put (now (out .entry)) 0 (printed (placed at (lineAt flag (now (image .entry)) at tail ∷ []))) (now (out .exit)) r ⌝ }
 {
     if tail {
-        return put_one(&HEX, &mut *out, 0, at, image[at]);
+        return put_one(&mut *out, 0, at, image[at]);
     }
     let w = put_span(
         image,
@@ -319,7 +319,7 @@ pub(crate) fn put_line(image: &[u8], at: usize, tail: bool, flag: bool, out: &mu
         0,
     );
     if w.length == 0 {
-        return put_one(&HEX, &mut *out, 0, at, image[at]);
+        return put_one(&mut *out, 0, at, image[at]);
     }
     w.next
 }

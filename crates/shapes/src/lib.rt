@@ -11,6 +11,24 @@ mod operand;
 mod place;
 mod register;
 
+use operands::far_address;
+use operands::fields::a5;
+use operands::fields::a6;
+use operands::fields::d2;
+use operands::fields::d3;
+use operands::fields::d4;
+use operands::fields::d5;
+use operands::fields::f6;
+use operands::fields::k6;
+use operands::fields::k7;
+use operands::fields::k8;
+use operands::fields::k12;
+use operands::fields::q6;
+use operands::fields::r3;
+use operands::fields::r4;
+use operands::fields::r5;
+use operands::fields::s7;
+use operands::low_address;
 use place::put_address_alone;
 use place::put_byte_alone;
 use place::put_io_bit;
@@ -31,34 +49,9 @@ use register::put_load;
 use register::put_pair_immediate;
 use register::put_pairs;
 use register::put_registers;
-use operands::far_address;
-use operands::fields::a5;
-use operands::fields::a6;
-use operands::fields::d2;
-use operands::fields::d3;
-use operands::fields::d4;
-use operands::fields::d5;
-use operands::fields::f6;
-use operands::fields::k6;
-use operands::fields::k7;
-use operands::fields::k8;
-use operands::fields::k12;
-use operands::fields::q6;
-use operands::fields::r3;
-use operands::fields::r4;
-use operands::fields::r5;
-use operands::fields::s7;
-use operands::low_address;
 
 // See specs/Pairs.antt for the number of a pair.
-pub fn put_operands(
-    hex: &[u8; 512],
-    pair: u32,
-    w: u16,
-    e: u16,
-    out: &mut [u8],
-    o: usize,
-) -> usize
+pub fn put_operands(hex: &[u8; 512], pair: u32, w: u16, e: u16, out: &mut [u8], o: usize) -> usize
     requires { ⌜ (now hex ≡ hexPairs) × (o + 17 ≤ length (now out)) ⌝ }
     ensures { λ r. ⌜ Put (now (out .entry)) o (operandsOf pair w e) (now (out .exit)) r ⌝ }
 {
