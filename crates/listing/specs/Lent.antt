@@ -9,10 +9,12 @@ use Rattle.decode.specs.Found.{Tables}
 use Rattle.text.specs.Names.{nameBytes}
 use Rattle.walk.specs.Theorems.{total}
 use Rattle.put.specs.Put.{Put}
+use Rattle.put.specs.Pairs.{hexPairs}
 
--- the lent tables are the columns of the rows and their spans, and the names
-pub record Lent (masks values targets spans forms names : List ℕ) : Type 0 where
+-- the lent tables are the columns of the rows and their spans, the hexadecimal pairs and the names
+pub record Lent (masks values targets spans forms hex names : List ℕ) : Type 0 where
   pub tables : Tables masks values targets spans forms
+  pub pairs : hex ≡ hexPairs
   pub name : names ≡ nameBytes
 
 -- lines, the first with the offset `at`, each ended by LF, put at o; they take n bytes of the image. No line's text takes more than

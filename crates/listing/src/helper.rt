@@ -13,19 +13,21 @@ ghost use Rattle.decode.specs.Found.{ofFound, Known};
 ghost use Rattle.text.specs.Names.{nameBytes};
 ghost use Rattle.walk.specs.Theorems.{total};
 ghost use Rattle.put.specs.Put.{Put};
+ghost use Rattle.put.specs.Pairs.{hexPairs};
 ghost use Rattle.listing.specs.Lent.{Lent, Wrote, Fitted};
 ghost use Rattle.walk.specs.Joining.{wholes};
 ghost use Rattle.listing.specs.Begun.{begunBy, tailText};
 ghost use Rattle.listing.specs.Parts.{partLines};
 use decode::helper::Found;
 use decode::helper::find;
+use put::lent::HEX;
+use put::lent::put_hex4;
+use put::lent::put_hex6;
 use put::put_both;
 use put::put_byte;
 use put::put_bytes;
 use put::put_count;
 use put::put_hex2;
-use put::put_hex4;
-use put::put_hex6;
 use rows::spans::SPANS;
 use rows::tables::FORMS;
 use rows::tables::MASKS;
@@ -41,22 +43,22 @@ pub struct Walked {
 }
 
 // The offset of a line, colon, space.
-fn put_head(out: &mut [u8], o: usize, at: usize) -> usize
-    requires { ⌜ (o + 8 ≤ length (now out)) × (at < 16777216) ⌝ }
+fn put_head(hex: &[u8; 512], out: &mut [u8], o: usize, at: usize) -> usize
+    requires { ⌜ (now hex ≡ hexPairs) × (o + 8 ≤ length (now out)) × (at < 16777216) ⌝ }
     ensures { λ r. ⌜ Put (now (out .entry)) o (padded 16 6 at ++ chars ": ") (now (out .exit)) r × (r ≡ o + 8) ⌝ }
 {
-    let p = put_hex6(&mut *out, o, at as u32);
+    let p = put_hex6(hex, &mut *out, o, at as u32);
     put_both(&mut *out, p, b':', b' ')
 }
 
 // A word that no row takes, and a byte, each as a line ended by LF.
-fn put_word(out: &mut [u8], o: usize, at: usize, w: u16) -> usize
-    requires { ⌜ (o + 30 ≤ length (now out)) × (at < 16777216) ⌝ }
+fn put_word(hex: &[u8; 512], out: &mut [u8], o: usize, at: usize, w: u16) -> usize
+    requires { ⌜ (now hex ≡ hexPairs) × (o + 30 ≤ length (now out)) × (at < 16777216) ⌝ }
     ensures { λ r. ⌜ Wrote at (line.Word w ∷ []) (now (out .entry)) o (now (out .exit)) 2 r ⌝ }
 {
-    let p = put_head(&mut *out, o, at);
+    let p = put_head(hex, &mut *out, o, at);
     let q = put_bytes(&mut *out, p, b".word $");
-    let r = put_hex4(&mut *out, q, w);
+    let r = put_hex4(hex, &mut *out, q, w);
     put_byte(&mut *out, r, 10)
 }
 
@@ -64,15 +66,22 @@ fn put_one(out: &mut [u8], o: usize, at: usize, b: u8) -> usize
     requires { ⌜ (o + 18 ≤ length (now out)) × (at < 16777216) ⌝ }
     ensures { λ r. ⌜ Wrote at (line.Byte b ∷ []) (now (out .entry)) o (now (out .exit)) 1 r ⌝ }
 {
-    let p = put_head(&mut *out, o, at);
+    let p = put_head(&HEX, &mut *out, o, at);
     let q = put_bytes(&mut *out, p, b".byte $");
     let r = put_hex2(&mut *out, q, b);
     put_byte(&mut *out, r, 10)
 }
 
 // The line of what was found at an offset, ended by LF; nothing where bytes are missing.
-fn put_found(names: &[u8; 770], found: Found, at: usize, out: &mut [u8], o: usize) -> Walked
-    requires { ⌜ (now names ≡ nameBytes) × Known found × (o + 30 ≤ length (now out)) × (at < 16777216) ⌝ }
+fn put_found(
+    hex: &[u8; 512],
+    names: &[u8; 770],
+    found: Found,
+    at: usize,
+    out: &mut [u8],
+    o: usize,
+) -> Walked
+    requires { ⌜ (now hex ≡ hexPairs) × (now names ≡ nameBytes) × Known found × (o + 32 ≤ length (now out)) × (at < 16777216) ⌝ }
     ensures { λ r. ⌜ Wrote at (wholes (lineOf (ofFound found) 0 ∷ [])) (now (out .entry)) o (now (out .exit)) (r .length) (r .next) ⌝ }
 {
     match found {
@@ -83,13 +92,13 @@ fn put_found(names: &[u8; 770], found: Found, at: usize, out: &mut [u8], o: usiz
             extra,
             length,
         } => {
-            let p = put_head(&mut *out, o, at);
-            let q = put_row(names, row, form, word, extra, &mut *out, p);
+            let p = put_head(hex, &mut *out, o, at);
+            let q = put_row(hex, names, row, form, word, extra, &mut *out, p);
             let next = put_byte(&mut *out, q, 10);
             Walked { length, next }
         }
         Found::InvalidOpcode(w) => {
-            let next = put_word(&mut *out, o, at, w);
+            let next = put_word(hex, &mut *out, o, at, w);
             Walked { length: 2, next }
         }
         Found::Short(_) => Walked { length: 0, next: o },
@@ -97,13 +106,14 @@ fn put_found(names: &[u8; 770], found: Found, at: usize, out: &mut [u8], o: usiz
 }
 
 // The lines that begin from one place of an image on and before another, up to the first `.byte` line, each ended by LF. The image
-// stands at an offset `base`. A line takes 30 bytes at most, and 18 at most for each byte of the image.
+// stands at an offset `base`. A line takes 30 bytes at most, and 18 at most for each byte of the image; while it is written, two bytes more.
 fn put_lines(
     masks: &[u16; 103],
     values: &[u16; 103],
     targets: &[u8; 103],
     spans: &[u16; 512],
     forms: &[u32; 103],
+    hex: &[u8; 512],
     names: &[u8; 770],
     image: &[u8],
     base: usize,
@@ -113,15 +123,15 @@ fn put_lines(
     out: &mut [u8],
     o: usize,
 ) -> Walked
-    requires { ⌜ Lent (now masks) (now values) (now targets) (now spans) (now forms) (now names) ⌝ }
-    requires { ⌜ (base + length (now image) ≤ limit) × (from ≤ length (now image)) × (stop ≤ length (now image) - 1) × (o ≤ length (now out)) × (from < stop → o + 18 * (stop - from) + 12 ≤ length (now out)) ⌝ }
+    requires { ⌜ Lent (now masks) (now values) (now targets) (now spans) (now forms) (now hex) (now names) ⌝ }
+    requires { ⌜ (base + length (now image) ≤ limit) × (from ≤ length (now image)) × (stop ≤ length (now image) - 1) × (o ≤ length (now out)) × (from < stop → o + 18 * (stop - from) + 14 ≤ length (now out)) ⌝ }
     ensures { λ r. ⌜ Wrote (base + from) (begunBy stop from (linesFrom flag false (drop from (now (image .entry))))) (now (out .entry)) o (now (out .exit)) (r .length) (r .next) ⌝ }
 {
     let mut at = from;
     let mut next = o;
     while at < stop {
         let found = find(masks, values, targets, spans, forms, &image[at..], flag);
-        let w = put_found(names, found, base + at, &mut *out, next);
+        let w = put_found(hex, names, found, base + at, &mut *out, next);
         next = w.next;
         at = at + w.length;
         if w.length == 0 {
@@ -147,7 +157,7 @@ fn put_span(
     out: &mut [u8],
     o: usize,
 ) -> Walked
-    requires { ⌜ (base + length (now image) ≤ limit) × (from ≤ length (now image)) × (stop ≤ length (now image) - 1) × (o ≤ length (now out)) × (from < stop → o + 18 * (stop - from) + 12 ≤ length (now out)) ⌝ }
+    requires { ⌜ (base + length (now image) ≤ limit) × (from ≤ length (now image)) × (stop ≤ length (now image) - 1) × (o ≤ length (now out)) × (from < stop → o + 18 * (stop - from) + 14 ≤ length (now out)) ⌝ }
     ensures { λ r. ⌜ Wrote (base + from) (begunBy stop from (linesFrom flag false (drop from (now (image .entry))))) (now (out .entry)) o (now (out .exit)) (r .length) (r .next) ⌝ }
 {
     put_lines(
@@ -156,6 +166,7 @@ fn put_span(
         &TARGETS,
         &SPANS,
         &FORMS,
+        &HEX,
         &NAMES,
         image,
         base,
@@ -260,7 +271,7 @@ fn copy_wholes(image: &[u8], base: usize, flag: bool, out: &mut [u8]) -> Walked
     ensures { λ r. ⌜ Fitted (printed (placed base (partLines flag true (now (image .entry))))) (now (out .entry)) 0 (now (out .exit)) (r .next) × (r .length ≡ total (partLines flag true (now (image .entry)))) × (r .next ≤ 18 * r .length) ⌝ }
 {
     let last = last_of(image.len());
-    let mut lines = [0u8; 4620];
+    let mut lines = [0u8; 4622];
     let mut at: usize = 0;
     let mut next: usize = 0;
     let mut took: usize = 1;
@@ -292,7 +303,7 @@ pub(crate) fn copy_part(image: &[u8], base: usize, more: bool, flag: bool, out: 
 
 // The listing line of a state that is inside the image, ended by LF. It moves nothing.
 pub(crate) fn put_line(image: &[u8], at: usize, tail: bool, flag: bool, out: &mut [u8]) -> usize
-    requires { ⌜ (at < length (now image)) × (length (now image) ≤ limit) × (30 ≤ length (now out)) ⌝ }
+    requires { ⌜ (at < length (now image)) × (length (now image) ≤ limit) × (32 ≤ length (now out)) ⌝ }
     ensures { λ r. ⌜ Put (now (out .entry)) 0 (printed (placed at (lineAt flag (now (image .entry)) at tail ∷ []))) (now (out .exit)) r ⌝ }
 {
     if tail {

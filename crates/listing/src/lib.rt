@@ -33,7 +33,7 @@ pub fn write_line(
     if image.len() <= at {
         return LineWritten::End;
     }
-    let mut line = [0u8; 30];
+    let mut line = [0u8; 32];
     let n = put_line(image, at, tail, target.has_16_bit_lds_sts, &mut line) - 1;
     if out.len() < n {
         return LineWritten::NoRoom(n);

@@ -26,6 +26,7 @@ use avr::Strings;
 use avr::Target;
 use decode::helper::Found;
 use decode::helper::find_one;
+use put::lent::HEX;
 use text::names::NAMES;
 
 // A text into the lent buffer, or refusal 3.
@@ -58,8 +59,8 @@ pub extern "C" fn avr_text(bytes: &[u8], flag: u8, out: &mut [u8]) -> u64
             extra,
             length: _,
         } => {
-            let mut line = [0u8; 21];
-            let n = text::put_row(&NAMES, row, form, word, extra, &mut line, 0);
+            let mut line = [0u8; 23];
+            let n = text::put_row(&HEX, &NAMES, row, form, word, extra, &mut line, 0);
             give(&line[..n], &mut *out)
         }
     }

@@ -6,8 +6,10 @@ ghost use Prim.Native.Nat.{_+_, _<_, _≤_};
 ghost use lib.Dec.{ltb};
 ghost use lib.ListN.{length, drop};
 ghost use Rattle.manual.specs.Choice.{pick};
-ghost use Rattle.manual.specs.Text.{digit, digits, padded, decimal};
+ghost use Rattle.manual.specs.Text.{digit, padded, decimal};
 ghost use Rattle.put.specs.Put.{Put};
+
+pub mod lent;
 
 // A digit, upper case past 9: without a branch, since digits of code are as good as random.
 fn hex_digit(n: u8) -> u8
@@ -69,14 +71,6 @@ pub fn put_hex4(out: &mut [u8], o: usize, n: u16) -> usize
     put_hex2(&mut *out, p, (n % 256) as u8)
 }
 
-pub fn put_hex6(out: &mut [u8], o: usize, n: u32) -> usize
-    requires { ⌜ (o + 6 ≤ length (now out)) × (n < 16777216) ⌝ }
-    ensures { λ r. ⌜ Put (now (out .entry)) o (padded 16 6 n) (now (out .exit)) r ⌝ }
-{
-    let p = put_hex4(&mut *out, o, (n / 256) as u16);
-    put_hex2(&mut *out, p, (n % 256) as u8)
-}
-
 // Two decimal digits.
 fn put_two(out: &mut [u8], o: usize, n: u8) -> usize
     requires { ⌜ (o + 2 ≤ length (now out)) × (n < 100) ⌝ }
@@ -86,7 +80,7 @@ fn put_two(out: &mut [u8], o: usize, n: u8) -> usize
 }
 
 // The place behind a digit that was put at p, or p itself if the digit is a leading 0: then the next one is put over it.
-fn behind(p: usize, n: u8, least: u8) -> usize
+pub(crate) fn behind(p: usize, n: u8, least: u8) -> usize
     requires { ⌜ p + 1 < 18446744073709551616 ⌝ }
     ensures { λ r. ⌜ (r ≡ pick (ltb n least) p (p + 1)) × (r ≤ p + 1) ⌝ }
 {
@@ -129,30 +123,4 @@ pub fn put_count(out: &mut [u8], o: usize, n: u32) -> usize
     let p = put_decimal(&mut *out, o, (n / 10000) as u16);
     let q = put_two(&mut *out, p, (n / 100 % 100) as u8);
     put_two(&mut *out, q, (n % 100) as u8)
-}
-
-// A byte in one or two hexadecimal digits.
-fn put_hex_byte(out: &mut [u8], o: usize, n: u8) -> usize
-    requires { ⌜ o + 2 ≤ length (now out) ⌝ }
-    ensures { λ r. ⌜ Put (now (out .entry)) o (digits 16 8 n) (now (out .exit)) r × (r ≤ o + 2) ⌝ }
-{
-    put_byte(&mut *out, o, hex_digit(n / 16));
-    let p = behind(o, n, 16);
-    put_byte(&mut *out, p, hex_digit(n % 16))
-}
-
-// A number of 24 bits in hexadecimal, without leading zeros.
-pub fn put_hex(out: &mut [u8], o: usize, n: u32) -> usize
-    requires { ⌜ (o + 6 ≤ length (now out)) × (n < 16777216) ⌝ }
-    ensures { λ r. ⌜ Put (now (out .entry)) o (digits 16 8 n) (now (out .exit)) r × (r ≤ o + 6) ⌝ }
-{
-    if n < 256 {
-        return put_hex_byte(&mut *out, o, n as u8);
-    }
-    if n < 65536 {
-        let p = put_hex_byte(&mut *out, o, (n / 256) as u8);
-        return put_hex2(&mut *out, p, (n % 256) as u8);
-    }
-    let p = put_hex_byte(&mut *out, o, (n / 65536) as u8);
-    put_hex4(&mut *out, p, (n % 65536) as u16)
 }

@@ -21,7 +21,7 @@ use Rattle.manual.specs.Text.{digit, digits, decimal, registerText, relativeTex
 use Rattle.cut.specs.Cut.{valueFrom}
 use Rattle.cut.proofs.Parts.{Lacks, up-seam, past-seam, up-all, lacks-both}
 use Rattle.cut.proofs.Digits.{digits-back, padded-back, digits-lack, padded-lack, decimal-lacks}
-use Rattle.text.proofs.Below.{below}
+use Rattle.put.proofs.Below.{below}
 use Rattle.read.specs.Operands.{changeAs, registerAs, distanceAs, dollarAs, operandAs}
 
 -- the operands that are read back, where a number behind `$` has the class m

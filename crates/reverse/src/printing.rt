@@ -11,14 +11,15 @@ use avr::Str;
 use avr::Strings;
 use decode::helper::Found;
 use decode::helper::find_one;
+use put::lent::HEX;
 use text::names::NAMES;
 
 fn row_prints(i: usize, form: u32, w: u16, e: u16, line: &[u8]) -> bool
     requires { ⌜ (i < 103) × (form ≡ formAt i) ⌝ }
     ensures { λ r. ⌜ r ≡ same (textOf (rowInstruction (rowAt i) w e)) (now (line .entry)) ⌝ }
 {
-    let mut out = [0u8; 21];
-    let n = text::put_row(&NAMES, i, form, w, e, &mut out, 0);
+    let mut out = [0u8; 23];
+    let n = text::put_row(&HEX, &NAMES, i, form, w, e, &mut out, 0);
     cut::equal(&out[..n], line)
 }
 

@@ -1,6 +1,4 @@
-pub mod Below
 pub mod NameTable
-pub mod Distance
 pub mod Lengths
 pub mod RowText
 pub mod Longest

@@ -4,10 +4,11 @@ use denote.Ref.{now}
 use native.Mathlib.Omega.{arith}
 use borrow.Author.Needs.{needs}
 use Rattle.manual.specs.Rows.{rows}
-use Rattle.manual.specs.Text.{digit, mnemonic}
+use Rattle.manual.specs.Text.{digit, padded, mnemonic}
 use Rattle.rows.specs.Kinds.{kinds}
 use Rattle.rows.specs.Columns.{maskList, valueList, targetList, formList}
 use Rattle.rows.specs.Spans.{spanList}
+use Rattle.put.specs.Pairs.{hexPairs}
 use Rattle.text.specs.Names.{nameList, nameBytes}
 use Rattle.decode.specs.Found.{ofFound}
 use Rattle.put.proofs.Fit.{at-start, start-length}
@@ -19,11 +20,11 @@ use Rattle.pirukames.proofs.avr_text.Statement.{statement}
 use Rattle.pirukames.proofs.avr_text.Tie as tie
 
 put-row-requires : tie.Need-put-row-requires
-unfolding rows kinds maskList valueList targetList formList spanList digit mnemonic nameList nameBytes
+unfolding rows kinds maskList valueList targetList formList spanList digit padded hexPairs mnemonic nameList nameBytes
 put-row-requires c κs =
-    let f = c .before .before .before in
+    let f = c .before .before .before .before in
     let k = row-known (f .found3 .given .1) (f .before .before .find-one .ensures .1) in
-    (lent .name, k .0, k .1, search needs)
+    (lent .pairs, lent .name, k .0, k .1, search needs)
 
 give-requires : tie.Need-give-requires
 give-requires c κs =
@@ -43,7 +44,7 @@ returns-2 c =
 returns-3 : tie.Need-returns-3
 returns-3 c =
     let p = c .before .before .before .before .before .before in
-    let f = p .before .before .before .before in
+    let f = p .before .before .before .before .before in
     through _ _ _ ofText (ap ofFound (sym (f .found3 .given .1)) ∙ f .before .before .find-one .ensures .0)
     (same-text _ _ _ (at-start (p .put-row .ensures .0)) (c .before .before .give .ensures))
 

@@ -26,7 +26,7 @@ use Rattle.listing.proofs.helper.copy_wholes.Tie as tie
 
 abbrev Inv-loop : tie.InvT-loop
 Inv-loop image base flag out₀ last lines₀ at₀ next₀ took₀ out lines at next took =
-    (at ≤ length image) × (next ≤ 18 * at) × (length lines ≡ 4620)
+    (at ≤ length image) × (next ≤ 18 * at) × (length lines ≡ 4622)
     × (took ≡ 0 → linesFrom flag false (drop at image) ≡ map line.Byte (drop at image))
     × ((ms : List Line)
     × (Fitted (printed (placed base ms)) out₀ 0 out next × (at ≡ total ms) × (ms ++ partLines flag true (drop at image) ≡ partLines flag true image)))

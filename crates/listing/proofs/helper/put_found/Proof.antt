@@ -15,8 +15,8 @@ put-row-requires c κs =
     let h = c .before .before .before in
     let f = h .before .before .before in
     let p = f .before .before .before .pre in
-    let k = row-known (f .found .given .1) (p .1) in
-    (p .0, k .0, k .1, omega (arith, h .put-head .ensures .1))
+    let k = row-known (f .found .given .1) (p .2) in
+    (p .0, p .1, k .0, k .1, omega (arith, h .put-head .ensures .1))
 
 returns : tie.Need-returns
 unfolding lineText rowInstruction
@@ -25,7 +25,7 @@ returns c =
     let w = y .before .before .before .before in
     let h = w .before .before .before .before in
     let f = h .before .before .before in
-    let k = row-known (f .found .given .1) (f .before .before .before .pre .1) in
+    let k = row-known (f .found .given .1) (f .before .before .before .pre .2) in
     let e = w .put-row .ensures in
     rw (f .found .given .1)
     (record {

@@ -19,14 +19,14 @@ use Rattle.listing.proofs.helper.put_lines.Statement.{statement}
 use Rattle.listing.proofs.helper.put_lines.Tie as tie
 
 abbrev Inv-loop : tie.InvT-loop
-Inv-loop masks values targets spans forms names image base from stop flag out₀ o at₀ next₀ out at next =
-    (from ≤ at) × (at ≤ length image) × (length out ≡ length out₀) × (at < stop → next + 18 * (stop - at) + 12 ≤ length out₀)
+Inv-loop masks values targets spans forms hex names image base from stop flag out₀ o at₀ next₀ out at next =
+    (from ≤ at) × (at ≤ length image) × (length out ≡ length out₀) × (at < stop → next + 18 * (stop - at) + 14 ≤ length out₀)
     × ((ms : List Line)
     × (Wrote (base + from) ms out₀ o out (at - from) next
     × (ms ++ begunBy stop at (linesFrom flag false (drop at image)) ≡ begunBy stop from (linesFrom flag false (drop from image)))))
 
 abbrev μ-loop : tie.MeasureT-loop
-μ-loop masks values targets spans forms names image base from stop flag out₀ o at₀ next₀ out at next = stop - at
+μ-loop masks values targets spans forms hex names image base from stop flag out₀ o at₀ next₀ out at next = stop - at
 
 loop-holds : tie.Need-loop-holds Inv-loop μ-loop
 loop-holds c =
@@ -42,7 +42,7 @@ put-found-requires c κs =
     let k = c .before .before .before .before in
     let s = k .before .before .before in
     let t : k .loop .at < s .args .stop = omega arith in
-    (s .pre .0 .name, c .before .find .ensures .1, omega (arith, k .loop .inv .3 t), omega arith)
+    (s .pre .0 .pairs, s .pre .0 .name, c .before .find .ensures .1, omega (arith, k .loop .inv .3 t), omega arith)
 
 add-at : tie.Need-add-at Inv-loop μ-loop
 add-at c =
