@@ -1,4 +1,5 @@
 // Files and messages: the one place that opens, reads, writes and says what is wrong. No contract can say which bytes are read or written.
+ghost use Prim.Native.Nat.{_≤_};
 ghost use lib.ListN.{length};
 ghost use Rattle.files.specs.Within.{ReadWithin, Within};
 
@@ -58,11 +59,12 @@ pub fn read(fd: i32, name: &[u8], buf: &mut [u8]) -> Got
     Got::Bytes(n)
 }
 
-// Reads up to the file's end, which comes before the room is used up or right behind it.
-fn fill(fd: i32, name: &[u8], buf: &mut [u8]) -> Loaded
+// Reads behind the first `from` bytes up to the file's end, which comes before the room is used up or right behind it.
+pub fn fill(fd: i32, name: &[u8], buf: &mut [u8], from: usize) -> Loaded
+    requires { ⌜ from ≤ length (now buf) ⌝ }
     ensures { λ r. ⌜ Within (length (now (buf .entry))) r ⌝ }
 {
-    let mut at: usize = 0;
+    let mut at = from;
     while at < buf.len() {
         let got = read(fd, name, &mut buf[at..]);
         match got {
@@ -93,7 +95,7 @@ pub fn load(name: &[u8], buf: &mut [u8]) -> Loaded
     if fd < 0 {
         return Loaded::Failed;
     }
-    let loaded = fill(fd, name, &mut *buf);
+    let loaded = fill(fd, name, &mut *buf, 0);
     libc::close(fd);
     loaded
 }

@@ -44,6 +44,15 @@ pub fn refuse(name: &[u8], line: usize, words: &[u8], number: usize) {
     tell(b"1");
 }
 
+// A file that is longer than this program has room for. Status 1.
+pub fn too_long(name: &[u8], most: usize) {
+    put_name(name);
+    write_all(STDERR_FILENO, b": longer than ");
+    io::print_decimal(STDERR_FILENO, most as u64);
+    write_all(STDERR_FILENO, b" bytes\n");
+    tell(b"1");
+}
+
 // Bad usage. Status 2.
 pub fn misused(words: &[u8]) {
     write_all(STDERR_FILENO, words);

@@ -9,25 +9,25 @@ use Rattle.files.proofs.fill.Statement.{statement}
 use Rattle.files.proofs.fill.Tie as tie
 
 abbrev Inv-loop : tie.InvT-loop
-Inv-loop fd name buf₀ at₀ buf at = (at ≤ length buf) × (length buf ≡ length buf₀)
+Inv-loop fd name buf₀ from at₀ buf at = (at ≤ length buf) × (length buf ≡ length buf₀)
 
 abbrev μ-loop : tie.MeasureT-loop
-μ-loop fd name buf₀ at₀ buf at = length buf - at
+μ-loop fd name buf₀ from at₀ buf at = length buf - at
 
 add-at : tie.Need-add-at Inv-loop μ-loop
 add-at c =
     let r = c .before .before .before .before .before in
-    omega (arith, read-within _ (r .read .result) (r .read .ensures) (c .before .got .given .1))
+    omega (arith, read-within (r .read .result) (r .read .ensures) (c .before .got .given .1))
 
 loop-less : tie.Need-loop-less Inv-loop μ-loop
 loop-less c =
     let r = c .before .before .before .before .before in
-    omega (arith, c .before .before .before .before .buf .given, read-within _ (r .read .result) (r .read .ensures) (c .before .got .given .1))
+    omega (arith, c .before .before .before .before .buf .given, read-within (r .read .result) (r .read .ensures) (c .before .got .given .1))
 
 loop-again : tie.Need-loop-again Inv-loop μ-loop
 loop-again c =
     let r = c .before .before .before .before .before in
-    (omega (arith, c .before .before .before .before .buf .given, read-within _ (r .read .result) (r .read .ensures) (c .before .got .given .1)), search needs)
+    (omega (arith, c .before .before .before .before .buf .given, read-within (r .read .result) (r .read .ensures) (c .before .got .given .1)), search needs)
 
 pub fill-spec : {M : Type 1} → statement M
 fill-spec =
