@@ -1,5 +1,6 @@
 // `cover`: a map file made or added to, from offsets or from other maps, and what a map is as ranges or as a picture.
-ghost use Prim.Native.Nat.{_≤_, _<_};
+ghost use mathlib.Core.Path.{_≡_};
+ghost use Prim.Native.Nat.{_≤_};
 ghost use lib.ListN.{length};
 use crate::args;
 use crate::maps;
@@ -70,7 +71,9 @@ fn add(at: usize, join: bool)
     add_all(&name[..n], at + 1, join);
 }
 
-fn show_ranges(map: &[u8], out: &mut [u8]) {
+fn show_ranges(map: &[u8], out: &mut [u8])
+    requires { ⌜ length (now map) ≡ 8192 ⌝ }
+{
     match cover::write_ranges(map, &mut *out) {
         MapWritten::Done(n) => {
             files::show(&out[..n]);
@@ -80,24 +83,24 @@ fn show_ranges(map: &[u8], out: &mut [u8]) {
     }
 }
 
-fn show_picture(map: &[u8], out: &mut [u8]) {
-    match cover::write_picture(map, &mut *out) {
-        MapWritten::Done(n) => {
-            files::show(&out[..n]);
-        }
-        MapWritten::NotAMap => {}
-        MapWritten::NoRoom(_) => {}
-    }
-}
-
-fn ranges_of(map: &[u8]) {
+// 131,072 bytes are the longest list.
+fn ranges_of(map: &[u8])
+    requires { ⌜ length (now map) ≡ 8192 ⌝ }
+{
     let mut out = [0u8; 131072];
     show_ranges(map, &mut out);
 }
 
+// The picture fills the array.
 fn picture_of(map: &[u8]) {
     let mut out = [0u8; 8203];
-    show_picture(map, &mut out);
+    match cover::write_picture(map, &mut out) {
+        MapWritten::Done(_) => {
+            files::show(&out);
+        }
+        MapWritten::NotAMap => {}
+        MapWritten::NoRoom(_) => {}
+    }
 }
 
 // The map that argument 3 names, as ranges or as a picture.

@@ -1,6 +1,7 @@
 // The commands over routines, traces and drives. Only arguments, files and messages stand here: what is printed comes from proved
 // functions over slices.
 mod args;
+mod boards;
 mod coverage;
 mod entry;
 mod lines;

@@ -1,6 +1,5 @@
 // Map files. A map is never written over: the new one is made beside it and renamed into place.
-ghost use mathlib.Core.Path.{_≡_};
-ghost use Prim.Native.Nat.{_≤_, _<_};
+ghost use Prim.Native.Nat.{_≤_};
 ghost use lib.ListN.{length};
 use crate::args::show_number;
 use cover::Counted;

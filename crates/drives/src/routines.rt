@@ -1,9 +1,11 @@
 // `stack`: the most stack bytes that a straight routine uses, or why it is refused and where.
-ghost use Prim.Native.Nat.{_≤_, _<_};
+ghost use Prim.Native.Nat.{_≤_};
 ghost use lib.ListN.{length};
 use crate::Offset;
 use crate::args;
 use crate::args::show_number;
+use crate::boards::load_board;
+use crate::boards::too_long;
 use crate::entry::entry_of;
 use avr::Target;
 use files::Loaded;
@@ -40,10 +42,6 @@ fn refuse_routine(name: &[u8], why: Why, at: usize) {
     }
 }
 
-fn too_long(name: &[u8]) {
-    refuse(name, 0, b"image too long", 5);
-}
-
 fn say_stack(name: &[u8], image: &[u8], reduced: bool, entry: usize) {
     let target = Target {
         has_16_bit_lds_sts: reduced,
@@ -58,23 +56,23 @@ fn say_stack(name: &[u8], image: &[u8], reduced: bool, entry: usize) {
 }
 
 // The image that argument i names, in a lent buffer.
-fn measure_in(image: &mut [u8], i: usize, reduced: bool, entry: usize) {
+fn measure_in(room: &mut [u8], i: usize, reduced: bool, entry: usize) {
     let mut name = io::buffer();
     let n = os::arg(i, &mut name);
     if os::errno() != 0 {
         fail(b"argument");
         return;
     }
-    match files::load(&name[..n], &mut *image) {
-        Loaded::Bytes(k) => say_stack(&name[..n], &image[..k], reduced, entry),
-        Loaded::Longer => too_long(&name[..n]),
+    match load_board(&name[..n], &mut *room) {
+        Loaded::Bytes(k) => say_stack(&name[..n], &room[..k], reduced, entry),
+        Loaded::Longer => {}
         Loaded::Failed => {}
     }
 }
 
 fn lend_image(i: usize, reduced: bool, entry: usize) {
-    let mut image = [0u8; 8388608];
-    measure_in(&mut image, i, reduced, entry);
+    let mut room = [0u8; 8388608];
+    measure_in(&mut room, i, reduced, entry);
 }
 
 pub fn measure_stack() {

@@ -1,5 +1,6 @@
 // `replay`: a trace held against an image of the car board.
 use crate::args::show_number;
+use crate::boards::load_board;
 use files::Got;
 use files::Loaded;
 use files::say::fail;
@@ -83,23 +84,23 @@ fn play_named(image: &[u8]) {
 }
 
 // The image that argument 2 names, in a lent buffer.
-fn replay_on(image: &mut [u8]) {
+fn replay_on(room: &mut [u8]) {
     let mut name = io::buffer();
     let n = os::arg(2, &mut name);
     if os::errno() != 0 {
         fail(b"argument");
         return;
     }
-    match files::load(&name[..n], &mut *image) {
-        Loaded::Bytes(k) => play_named(&image[..k]),
-        Loaded::Longer => refuse(&name[..n], 0, b"image too long", 5),
+    match load_board(&name[..n], &mut *room) {
+        Loaded::Bytes(k) => play_named(&room[..k]),
+        Loaded::Longer => {}
         Loaded::Failed => {}
     }
 }
 
 fn lend_image() {
-    let mut image = [0u8; 8388608];
-    replay_on(&mut image);
+    let mut room = [0u8; 8388608];
+    replay_on(&mut room);
 }
 
 pub fn replay_trace() {

@@ -18,7 +18,7 @@ pub enum Form {
 }
 
 // Intel HEX begins with a colon.
-pub(crate) fn is_hex(form: Form, bytes: &[u8]) -> bool {
+pub fn is_hex(form: Form, bytes: &[u8]) -> bool {
     match form {
         Form::Either => cut::head(bytes) == b':',
         Form::Hex => true,
@@ -27,7 +27,7 @@ pub(crate) fn is_hex(form: Form, bytes: &[u8]) -> bool {
 }
 
 // The image of a text of Intel HEX, or its refusal, which was said.
-pub(crate) fn read_hex(name: &[u8], text: &[u8], image: &mut [u8]) -> Loaded
+pub fn read_hex(name: &[u8], text: &[u8], image: &mut [u8]) -> Loaded
     ensures { λ r. ⌜ Within (length (now (image .entry))) r ⌝ }
 {
     let read = hex::read(text, &mut *image);

@@ -5,7 +5,7 @@ use Rattle.drives.proofs.lines.show_strings.Statement.{statement}
 use Rattle.drives.proofs.lines.show_strings.Tie as tie
 
 slice-aggregate-show : tie.Need-slice-aggregate-show
-slice-aggregate-show c = ?
+slice-aggregate-show c = start-length (c .before .before .put-strings .ensures .0)
 
 pub show-strings-spec : {M : Type 1} → statement M
 show-strings-spec =

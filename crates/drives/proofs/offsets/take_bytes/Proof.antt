@@ -1,50 +1,16 @@
+-- The line keeps its length, and no more of it is counted.
+use mathlib.Core.Path.{_≡_}
+use Prim.Native.Nat.{_-_, _≤_}
+use lib.ListN.{length}
+use borrow.Author.Needs.{needs}
 use Rattle.drives.proofs.offsets.take_bytes.Statement.{statement}
 use Rattle.drives.proofs.offsets.take_bytes.Tie as tie
-use Rattle.drives.proofs.offsets.take_bytes.Reads as reads
-use Rattle.drives.proofs.offsets.take_bytes.Lts as lts
-use Rattle.drives.proofs.offsets.take_byte.Reads as take-byte-reads
 
 abbrev Inv-loop : tie.InvT-loop
-Inv-loop name piece line₀ map₀ at₀ i₀ line map at i = ?
+Inv-loop name piece line₀ map₀ at₀ i₀ line map at i = (length line ≡ 8) × (at .count ≤ 8) × (length line ≡ length line₀) × (length map ≡ length map₀)
 
 abbrev μ-loop : tie.MeasureT-loop
-μ-loop name piece line₀ map₀ at₀ i₀ line map at i = ?
-
--- src/offsets.rt:57:5
-loop-holds : tie.Need-loop-holds Inv-loop μ-loop
-loop-holds c = ?
-
--- src/offsets.rt:58:30
-shared-slice-read-take-byte : tie.Need-shared-slice-read-take-byte Inv-loop μ-loop
-shared-slice-read-take-byte c = ?
-
--- src/offsets.rt:58:9
-take-byte-requires : tie.Need-take-byte-requires Inv-loop μ-loop
-take-byte-requires c κs = ?
-
--- src/offsets.rt:59:9
-add-i : tie.Need-add-i Inv-loop μ-loop
-add-i c = ?
-
--- src/offsets.rt:57:5
-loop-less : tie.Need-loop-less Inv-loop μ-loop
-loop-less c = ?
-
--- src/offsets.rt:57:5
-loop-again : tie.Need-loop-again Inv-loop μ-loop
-loop-again c = ?
-
--- src/offsets.rt:51:1
-same-length : tie.Need-same-length Inv-loop μ-loop
-same-length c = ?
-
--- src/offsets.rt:51:1
-same-length-2 : tie.Need-same-length-2 Inv-loop μ-loop
-same-length-2 c = ?
-
--- src/offsets.rt:51:1
-returns : tie.Need-returns Inv-loop μ-loop
-returns c = ?
+μ-loop name piece line₀ map₀ at₀ i₀ line map at i = length piece - i
 
 pub take-bytes-spec : {M : Type 1} → statement M
 take-bytes-spec =
@@ -52,12 +18,12 @@ take-bytes-spec =
     (tie.spec
     Inv-loop
     μ-loop
-    loop-holds
-    shared-slice-read-take-byte
-    take-byte-requires
-    add-i
-    loop-less
-    loop-again
-    same-length
-    same-length-2
-    returns)
+    (λ c. search needs)
+    (λ c. search needs)
+    (λ c κs. search needs)
+    (λ c. search needs)
+    (λ c. search needs)
+    (λ c. search needs)
+    (λ c. search needs)
+    (λ c. search needs)
+    (λ c. search needs))

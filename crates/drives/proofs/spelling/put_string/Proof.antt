@@ -30,12 +30,12 @@ put-string-spec =
     (tie.spec
     (λ c. search needs)
     (λ c κs. search needs)
-    (λ c κs. ?)
+    (λ c κs. omega (arith, c .before .before .before .put-hex2 .ensures .next))
     (λ c. search needs)
     (λ c κs. search needs)
-    (λ c κs. ?)
-    (λ c κs. ?)
-    (λ c κs. ?)
+    (λ c κs. omega (arith, c .before .before .before .put-hex23 .ensures .next))
+    (λ c κs. omega (arith, c .before .before .before .put-hex24 .ensures .next, c .before .before .before .before .before .before .before .put-hex23 .ensures .next))
+    (λ c κs. omega (arith, c .before .before .before .put-hex25 .ensures .next, c .before .before .before .before .before .before .before .put-hex24 .ensures .next, c .before .before .before .before .before .before .before .before .before .before .before .put-hex23 .ensures .next))
     (λ c. search needs)
     returns
     (λ c. search needs)

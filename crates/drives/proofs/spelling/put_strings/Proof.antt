@@ -11,7 +11,7 @@ returns : tie.Need-returns
 unfolding spellings spelt
 returns c =
     let a = c .before .before .put-byte .ensures in
-    rw (c .before .before .before .before .enum-told .given) (a, omega (arith, a .next))
+    rw (c .before .before .before .before .enum-told .given .1) (a, omega (arith, a .next))
 
 returns-2 : tie.Need-returns-2
 unfolding spellings spelt
