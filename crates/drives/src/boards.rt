@@ -46,17 +46,23 @@ fn refuse_longer(name: &[u8], room: &[u8]) -> Loaded
     Loaded::Failed
 }
 
+// A file's bytes at the start of the buffer become its image there.
+fn hex_or_raw(name: &[u8], room: &mut [u8], n: usize) -> Loaded
+    requires { ⌜ n ≤ length (now room) ⌝ }
+    ensures { λ r. ⌜ Within (length (now (room .entry))) r ⌝ }
+{
+    if images::is_hex(Form::Either, &room[..n]) {
+        return from_hex(name, &mut *room, n);
+    }
+    Loaded::Bytes(n)
+}
+
 // The image of a file at the start of the buffer. What fails or is refused was said.
 pub(crate) fn load_board(name: &[u8], room: &mut [u8]) -> Loaded
     ensures { λ r. ⌜ Within (length (now (room .entry))) r ⌝ }
 {
     match files::load(name, &mut *room) {
-        Loaded::Bytes(n) => {
-            if images::is_hex(Form::Either, &room[..n]) {
-                return from_hex(name, &mut *room, n);
-            }
-            Loaded::Bytes(n)
-        }
+        Loaded::Bytes(n) => hex_or_raw(name, &mut *room, n),
         Loaded::Longer => refuse_longer(name, &*room),
         Loaded::Failed => Loaded::Failed,
     }

@@ -1,7 +1,7 @@
 -- By the tests, in their order.
 use mathlib.Core.Path.{sym, _∙_}
 use borrow.Author.Needs.{needs}
-use borrow.Author.Tests.{lt-leb, le-leb}
+use borrow.Author.Tests.{lt-leb, le-leb, not-true, not-false}
 use Rattle.drives.proofs.entry.entry_of.Statement.{statement}
 use Rattle.drives.proofs.entry.entry_of.Tie as tie
 
@@ -14,12 +14,12 @@ returns-2 c = rw (le-leb _ _ (c .before .if1 .left), lt-leb _ _ (c .if2 .taken))
 returns-3 : tie.Need-returns-3
 returns-3 c =
     let a = c .before in
-    rw (le-leb _ _ (a .before .before .if1 .left), le-leb _ _ (a .before .if2 .left), sym (a .all-digits .ensures) ∙ c .if3 .taken)
+    rw (le-leb _ _ (a .before .before .if1 .left), le-leb _ _ (a .before .if2 .left), sym (a .all-digits .ensures) ∙ not-true _ (c .if3 .taken))
 
 returns-4 : tie.Need-returns-4
 returns-4 c =
     let a = c .before .before in
-    rw (le-leb _ _ (a .before .before .if1 .left), le-leb _ _ (a .before .if2 .left), sym (a .all-digits .ensures) ∙ c .before .if3 .left, c .value .ensures .0)
+    rw (le-leb _ _ (a .before .before .if1 .left), le-leb _ _ (a .before .if2 .left), sym (a .all-digits .ensures) ∙ not-false _ (c .before .if3 .left), c .value .ensures .0)
 
 pub entry-of-spec : {M : Type 1} → statement M
 entry-of-spec =

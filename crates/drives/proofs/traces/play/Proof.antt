@@ -14,7 +14,7 @@ abbrev μ-loop : tie.MeasureT-loop
 μ-loop image fd name input₀ trace₀ turns₀ input trace turns = turns
 
 inside : tie.Need-array-share-prefix-input Inv-loop μ-loop
-inside c = ?
+inside c = let r = c .before .before .before .before in omega (arith, read-within (r .read .result) (r .read .ensures) (c .before .got .given .1))
 
 pub play-spec : {M : Type 1} → statement M
 play-spec =
