@@ -1,4 +1,4 @@
-// Images of boards, raw or Intel HEX, in a lent buffer of 8,388,608 bytes.
+// Images of boards, raw or Intel HEX, in a lent buffer.
 ghost use Prim.Native.Nat.{_≤_};
 ghost use lib.ListN.{length};
 ghost use Rattle.files.specs.Within.{Within};
@@ -34,15 +34,19 @@ fn from_hex(name: &[u8], room: &mut [u8], n: usize) -> Loaded
     }
 }
 
-// More bytes than the buffer has. A text of Intel HEX that has a number of its own is far shorter.
+// More bytes than the buffer has: refusal 5 where that is as long as an image may be. A text of Intel HEX that gives an image is far shorter.
 fn refuse_longer(name: &[u8], room: &[u8]) -> Loaded
     ensures { λ r. ⌜ Within (length (now (room .entry))) r ⌝ }
 {
     if images::is_hex(Form::Either, room) {
         files::say::too_long(name, room.len());
-    } else {
-        too_long(name);
+        return Loaded::Failed;
     }
+    if room.len() < 8388608 {
+        files::say::too_long(name, room.len());
+        return Loaded::Failed;
+    }
+    too_long(name);
     Loaded::Failed
 }
 

@@ -7,6 +7,7 @@ mod entry;
 mod lines;
 mod maps;
 mod offsets;
+mod rooms;
 mod routines;
 mod spelling;
 mod traces;

@@ -7,6 +7,8 @@ use crate::args::show_number;
 use crate::boards::load_board;
 use crate::boards::too_long;
 use crate::entry::entry_of;
+use crate::rooms::Work;
+use crate::rooms::lend_room;
 use avr::Target;
 use files::Loaded;
 use files::say::fail;
@@ -56,7 +58,7 @@ fn say_stack(name: &[u8], image: &[u8], reduced: bool, entry: usize) {
 }
 
 // The image that argument i names, in a lent buffer.
-fn measure_in(room: &mut [u8], i: usize, reduced: bool, entry: usize) {
+pub(crate) fn measure_in(room: &mut [u8], i: usize, reduced: bool, entry: usize) {
     let mut name = io::buffer();
     let n = os::arg(i, &mut name);
     if os::errno() != 0 {
@@ -70,11 +72,6 @@ fn measure_in(room: &mut [u8], i: usize, reduced: bool, entry: usize) {
     }
 }
 
-fn lend_image(i: usize, reduced: bool, entry: usize) {
-    let mut room = [0u8; 8388608];
-    measure_in(&mut room, i, reduced, entry);
-}
-
 pub fn measure_stack() {
     let reduced = args::is(2, b"--reduced");
     let i = args::behind_flag(reduced);
@@ -85,7 +82,14 @@ pub fn measure_stack() {
     let mut text = [0u8; 16];
     let n = os::arg(i + 1, &mut text);
     match entry_of(&text[..n]) {
-        Offset::At(entry) => lend_image(i, reduced, entry),
+        Offset::At(entry) => lend_room(
+            i,
+            Work::Stack {
+                file: i,
+                reduced,
+                entry,
+            },
+        ),
         Offset::NotOne => misused(),
     }
 }

@@ -1,6 +1,8 @@
 // `replay`: a trace held against an image of the car board.
 use crate::args::show_number;
 use crate::boards::load_board;
+use crate::rooms::Work;
+use crate::rooms::lend_room;
 use files::Got;
 use files::Loaded;
 use files::say::fail;
@@ -84,7 +86,7 @@ fn play_named(image: &[u8]) {
 }
 
 // The image that argument 2 names, in a lent buffer.
-fn replay_on(room: &mut [u8]) {
+pub(crate) fn replay_in(room: &mut [u8]) {
     let mut name = io::buffer();
     let n = os::arg(2, &mut name);
     if os::errno() != 0 {
@@ -98,15 +100,10 @@ fn replay_on(room: &mut [u8]) {
     }
 }
 
-fn lend_image() {
-    let mut room = [0u8; 8388608];
-    replay_on(&mut room);
-}
-
 pub fn replay_trace() {
     if os::arg_count() != 4 {
         files::say::misused(b"usage: pirukames replay FILE TRACE");
         return;
     }
-    lend_image();
+    lend_room(2, Work::Replay);
 }

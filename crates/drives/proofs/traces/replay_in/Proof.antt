@@ -2,14 +2,14 @@
 use borrow.Author.Needs.{needs}
 use native.Mathlib.Omega.{arith}
 use Rattle.files.proofs.Within.{loaded-within, part-long}
-use Rattle.drives.proofs.traces.replay_on.Statement.{statement}
-use Rattle.drives.proofs.traces.replay_on.Tie as tie
+use Rattle.drives.proofs.traces.replay_in.Statement.{statement}
+use Rattle.drives.proofs.traces.replay_in.Tie as tie
 
 inside : tie.Need-slice-reshare-prefix-play-named
 inside c = let r = c .before .before .before .before .before in omega (arith, loaded-within (r .load-board .result) (r .load-board .ensures) (c .before .k .given .1))
 
-pub replay-on-spec : {M : Type 1} → statement M
-replay-on-spec =
+pub replay-in-spec : {M : Type 1} → statement M
+replay-in-spec =
     tie.close
     (tie.spec
     (λ c κs. search needs)
