@@ -59,6 +59,12 @@ pub fn read(fd: i32, name: &[u8], buf: &mut [u8]) -> Got
     Got::Bytes(n)
 }
 
+// Whether a file has a byte at an offset from its start. Of a pipe that is not known before it is read.
+pub fn reaches(fd: i32, at: i64) -> bool {
+    let mut byte = [0u8; 1];
+    libc::pread(fd, &mut byte, at) > 0
+}
+
 // Reads behind the first `from` bytes up to the file's end, which comes before the room is used up or right behind it.
 pub fn fill(fd: i32, name: &[u8], buf: &mut [u8], from: usize) -> Loaded
     requires { ⌜ from ≤ length (now buf) ⌝ }

@@ -3,6 +3,9 @@
 ghost use lib.ListN.{length};
 ghost use Rattle.files.specs.Within.{Within};
 
+pub mod lists;
+pub(crate) mod parts;
+pub(crate) mod raw;
 pub(crate) mod words;
 
 use files::Loaded;

@@ -1,0 +1,29 @@
+// What there is, a line for each command, with an example.
+use files::show;
+
+fn on_images() -> bool {
+    show(
+        b"list [--reduced] [--hex | --raw] FILE   the listing of an image: pirukames list examples/night.hex
+image [--reduced] [--hex] LISTING       the image of a listing: pirukames image --hex night.list
+hex FILE                                a raw image as Intel HEX: pirukames hex night.bin
+raw FILE                                Intel HEX as a raw image: pirukames raw examples/night.hex
+",
+    )
+}
+
+fn on_the_rest() -> bool {
+    show(
+        b"frames                                  frames on standard input: pirukames frames < examples/night.frames
+help                                    this page: pirukames help
+
+A FILE is Intel HEX if it begins with a colon, and raw bytes if not; --hex and --raw say which. - is standard input.
+--reduced is for the reduced core, whose lds and sts have 16 bits.
+",
+    )
+}
+
+pub(crate) fn show_all() {
+    if on_images() {
+        on_the_rest();
+    }
+}
