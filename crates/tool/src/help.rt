@@ -11,6 +11,19 @@ raw FILE                                Intel HEX as a raw image: pirukames raw 
     )
 }
 
+fn on_drives() -> bool {
+    show(
+        b"reverse [--reduced] LINE..              the bytes behind printed lines: pirukames reverse 'lds r16, $0040'
+stack [--reduced] FILE ENTRY            the most stack bytes of the routine there: pirukames stack examples/bay.hex 000000
+replay FILE TRACE                       how many frames of a trace agree: pirukames replay examples/car.hex examples/trace.txt
+cover MAP OFFSETS..                     adds visited offsets to a map file: pirukames cover night.map examples/drive.txt
+cover --join MAP OTHER..                adds other maps to it: pirukames cover --join night.map day.map
+cover --ranges MAP                      a map as ranges: pirukames cover --ranges night.map
+cover --picture MAP                     a map as a picture: pirukames cover --picture night.map > night.pbm
+",
+    )
+}
+
 fn on_the_rest() -> bool {
     show(
         b"frames                                  frames on standard input: pirukames frames < examples/night.frames
@@ -24,6 +37,8 @@ A FILE is Intel HEX if it begins with a colon, and raw bytes if not; --hex and -
 
 pub(crate) fn show_all() {
     if on_images() {
-        on_the_rest();
+        if on_drives() {
+            on_the_rest();
+        }
     }
 }

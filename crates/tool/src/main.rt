@@ -1,6 +1,7 @@
 // The program for people: its first argument is a command, and the others are that command's. Only arguments are read here.
 mod asked;
 mod help;
+mod on_drives;
 
 use asked::Asked;
 use files::say::misused;
@@ -21,7 +22,7 @@ fn run(command: &[u8]) {
     } else if cut::equal(command, b"help") {
         help::show_all();
     } else {
-        misused(b"usage: pirukames COMMAND .., as 'pirukames help' says");
+        on_drives::run(command);
     }
 }
 
