@@ -1,7 +1,9 @@
 // The program's commands on images and listings: files in, listings, images or Intel HEX out. Every byte that is shown comes from a function
 // over slices of the crates below.
+ghost use mathlib.Core.Path.{_≡_};
 ghost use lib.ListN.{length};
 ghost use Rattle.files.specs.Within.{Within};
+ghost use Rattle.images.specs.Kind.{isHex};
 
 pub mod lists;
 pub(crate) mod parts;
@@ -21,7 +23,9 @@ pub enum Form {
 }
 
 // Intel HEX begins with a colon.
-pub fn is_hex(form: Form, bytes: &[u8]) -> bool {
+pub fn is_hex(form: Form, bytes: &[u8]) -> bool
+    ensures { λ r. ⌜ r ≡ isHex form (now (bytes .entry)) ⌝ }
+{
     match form {
         Form::Either => cut::head(bytes) == b':',
         Form::Hex => true,
