@@ -8,6 +8,13 @@ pub(crate) fn is(i: usize, word: &[u8]) -> bool {
     cut::equal(&buf[..n], word)
 }
 
+// Whether argument i looks like an option.
+pub(crate) fn is_option(i: usize) -> bool {
+    let mut buf = [0u8; 64];
+    let n = os::arg(i, &mut buf);
+    cut::head(&buf[..n]) == b'-'
+}
+
 // Where a command's arguments begin, behind the flag.
 pub(crate) fn behind_flag(reduced: bool) -> usize
     ensures { λ r. ⌜ r ≤ 3 ⌝ }

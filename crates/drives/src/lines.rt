@@ -23,12 +23,20 @@ fn answer(i: usize, reduced: bool) -> bool {
     show_strings(&line[..n], reduced)
 }
 
+fn misused() {
+    files::say::misused(b"usage: pirukames reverse [--reduced] LINE..");
+}
+
 pub fn reverse_lines() {
     let reduced = args::is(2, b"--reduced");
     let mut i = args::behind_flag(reduced);
     let count = os::arg_count();
     if count <= i {
-        files::say::misused(b"usage: pirukames reverse [--reduced] LINE..");
+        misused();
+        return;
+    }
+    if args::is_option(i) {
+        misused();
         return;
     }
     while i < count {
