@@ -3,9 +3,11 @@
 ghost use lib.ListN.{length};
 ghost use Rattle.files.specs.Within.{Within};
 
+pub mod convert;
 pub mod lists;
 pub(crate) mod parts;
 pub(crate) mod raw;
+pub mod restore;
 pub(crate) mod words;
 
 use files::Loaded;
