@@ -5,9 +5,11 @@ ghost use lib.ListN.{length};
 ghost use Rattle.files.specs.Within.{Within};
 ghost use Rattle.images.specs.Kind.{isHex};
 
+pub mod convert;
 pub mod lists;
 pub(crate) mod parts;
 pub(crate) mod raw;
+pub mod restore;
 pub(crate) mod words;
 
 use files::Loaded;
