@@ -9,7 +9,9 @@ use cover::MapWritten;
 use files::say::fail;
 
 fn misused() {
-    files::say::misused(b"usage: pirukames cover MAP OFFSETS.. | --join MAP OTHER.. | --ranges MAP | --picture MAP");
+    files::say::misused(
+        b"usage: pirukames cover MAP OFFSETS.. | --join MAP OTHER.. | --ranges MAP | --picture MAP",
+    );
 }
 
 // What argument i names is added to a map: a map's words, or those of a file's lines. False: it could not be, which was said.

@@ -33,7 +33,12 @@ fn refuse_at(name: &[u8], words: &[u8], at: usize, number: usize)
 
 fn refuse_routine(name: &[u8], why: Why, at: usize) {
     match why {
-        Why::NoEntry => refuse_at(name, b"entry or call target odd or outside the image", at, 30),
+        Why::NoEntry => refuse_at(
+            name,
+            b"entry or call target odd or outside the image",
+            at,
+            30,
+        ),
         Why::NotDecoded => refuse_at(name, b"line that does not decode", at, 31),
         Why::Leaves => refuse_at(name, b"jump, branch, skip or indirect call", at, 32),
         Why::MovesStack => refuse_at(name, b"out to $3D or $3E", at, 33),
