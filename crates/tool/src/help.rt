@@ -17,8 +17,8 @@ fn on_drives() -> bool {
 stack [--reduced] FILE ENTRY            the most stack bytes of the routine there: pirukames stack examples/bay.hex 000000
 replay FILE TRACE                       how many frames of a trace agree: pirukames replay examples/car.hex examples/trace.txt
 cover MAP OFFSETS..                     adds visited offsets to a map file: pirukames cover night.map examples/drive.txt
-cover --join MAP OTHER..                adds other maps to it: pirukames cover --join night.map day.map
-cover --ranges MAP                      a map as ranges: pirukames cover --ranges night.map
+cover --join MAP OTHER..                adds other maps to it: pirukames cover --join day.map night.map
+cover --ranges MAP                      a map as ranges: pirukames cover --ranges night.map > night.ranges
 cover --picture MAP                     a map as a picture: pirukames cover --picture night.map > night.pbm
 ",
     )
