@@ -1,43 +1,33 @@
-// The arguments behind a command: options, and one file's name.
+// The options in front of a command's files.
 use avr::Target;
 use images::Form;
 
-// Which options were given; the number of the argument that is the name, 0 for none; and whether something else was there.
 pub(crate) struct Asked {
     pub(crate) reduced: bool,
     pub(crate) hex: bool,
     pub(crate) raw: bool,
-    pub(crate) name: usize,
-    pub(crate) bad: bool,
+    pub(crate) unknown: bool,
 }
 
-fn nothing() -> Asked {
+pub(crate) fn nothing() -> Asked {
     Asked {
         reduced: false,
         hex: false,
         raw: false,
-        name: 0,
-        bad: false,
+        unknown: false,
     }
 }
 
-// An argument that is no option is the name. There is one, and it doesn't look like an option; `-` is standard input.
-fn named(asked: Asked, word: &[u8], i: usize) -> Asked {
-    let mut a = asked;
-    if a.name != 0 {
-        a.bad = true;
+// A word that begins with a hyphen is an option; `-` alone is standard input.
+pub(crate) fn is_option(word: &[u8]) -> bool {
+    if word.len() < 2 {
+        return false;
     }
-    if cut::head(word) == b'-' {
-        if word.len() != 1 {
-            a.bad = true;
-        }
-    }
-    a.name = i;
-    a
+    word[0] == b'-'
 }
 
-// One argument more.
-fn with(asked: Asked, word: &[u8], i: usize) -> Asked {
+// One option more.
+pub(crate) fn with(asked: Asked, word: &[u8]) -> Asked {
     let mut a = asked;
     if cut::equal(word, b"--reduced") {
         a.reduced = true;
@@ -46,41 +36,26 @@ fn with(asked: Asked, word: &[u8], i: usize) -> Asked {
     } else if cut::equal(word, b"--raw") {
         a.raw = true;
     } else {
-        a = named(a, word, i);
+        a.unknown = true;
     }
     a
 }
 
-// The argument of this number. One that is longer than a path is taken for bad usage.
-fn take(asked: Asked, i: usize) -> Asked {
-    let mut word = io::buffer();
-    let n = os::arg(i, &mut word);
-    if os::errno() != 0 {
-        let mut a = asked;
-        a.bad = true;
-        return a;
-    }
-    with(asked, &word[..n], i)
-}
-
-// All arguments from the second on.
-pub(crate) fn read() -> Asked {
+// Argument i is there and the last.
+fn is_last(i: usize) -> bool {
     let count = os::arg_count();
-    let mut asked = nothing();
-    let mut i = 2;
-    while i < count {
-        asked = take(asked, i);
-        i += 1;
-    }
-    asked
-}
-
-// Whether they suit a command that takes these options.
-pub(crate) fn suits(a: Asked, reduced: bool, hex: bool, raw: bool) -> bool {
-    if a.bad {
+    if count < 1 {
         return false;
     }
-    if a.name == 0 {
+    count - 1 == i
+}
+
+// Whether they suit a command that takes these options and one file, which is argument i, the last.
+pub(crate) fn suits(a: Asked, i: usize, reduced: bool, hex: bool, raw: bool) -> bool {
+    if a.unknown {
+        return false;
+    }
+    if !is_last(i) {
         return false;
     }
     if a.reduced {

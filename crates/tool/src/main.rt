@@ -1,4 +1,6 @@
-// The program for people: its first argument is a command, and the others are that command's. Only arguments are read here.
+// The program for people: its first argument is a command, then come that command's options and files. Only arguments are read here.
+ghost use Prim.Native.Nat.{_≤_};
+
 mod asked;
 mod help;
 mod on_drives;
@@ -6,55 +8,60 @@ mod on_drives;
 use asked::Asked;
 use files::say::misused;
 
-fn list(a: Asked) {
-    if !asked::suits(a, true, true, true) {
+fn list(name: &[u8], i: usize, a: Asked) {
+    if asked::suits(a, i, true, true, true) {
+        images::lists::list(name, asked::form(a), asked::target(a));
+    } else {
         misused(b"usage: pirukames list [--reduced] [--hex | --raw] FILE");
-        return;
     }
-    let mut name = io::buffer();
-    let n = os::arg(a.name, &mut name);
-    images::lists::list(&name[..n], asked::form(a), asked::target(a));
 }
 
-fn image(a: Asked) {
-    if !asked::suits(a, true, true, false) {
+fn image(name: &[u8], i: usize, a: Asked) {
+    if asked::suits(a, i, true, true, false) {
+        images::restore::image(name, a.hex, asked::target(a));
+    } else {
         misused(b"usage: pirukames image [--reduced] [--hex] LISTING");
-        return;
     }
-    let mut name = io::buffer();
-    let n = os::arg(a.name, &mut name);
-    images::restore::image(&name[..n], a.hex, asked::target(a));
 }
 
-fn hex(a: Asked) {
-    if !asked::suits(a, false, false, false) {
+fn hex(name: &[u8], i: usize, a: Asked) {
+    if asked::suits(a, i, false, false, false) {
+        images::convert::hex(name);
+    } else {
         misused(b"usage: pirukames hex FILE");
-        return;
     }
-    let mut name = io::buffer();
-    let n = os::arg(a.name, &mut name);
-    images::convert::hex(&name[..n]);
 }
 
-fn raw(a: Asked) {
-    if !asked::suits(a, false, false, false) {
+fn raw(name: &[u8], i: usize, a: Asked) {
+    if asked::suits(a, i, false, false, false) {
+        images::convert::raw(name);
+    } else {
         misused(b"usage: pirukames raw FILE");
-        return;
     }
-    let mut name = io::buffer();
-    let n = os::arg(a.name, &mut name);
-    images::convert::raw(&name[..n]);
 }
 
-fn run(command: &[u8]) {
-    if cut::equal(command, b"list") {
-        list(asked::read());
+// The next argument is an option, and the rest is read so too; or it is the first file, and the command is run. There may be nine options.
+// That the function calls itself keeps the compiler from joining it with the commands, whose buffers would all be taken at once.
+fn run(command: &[u8], left: usize, a: Asked)
+    requires { ⌜ left ≤ 9 ⌝ }
+{
+    let i = 11 - left;
+    let mut word = io::buffer();
+    let n = os::arg(i, &mut word);
+    if asked::is_option(&word[..n]) {
+        if 0 < left {
+            run(command, left - 1, asked::with(a, &word[..n]));
+        } else {
+            misused(b"usage: pirukames COMMAND .., as 'pirukames help' says");
+        }
+    } else if cut::equal(command, b"list") {
+        list(&word[..n], i, a);
     } else if cut::equal(command, b"image") {
-        image(asked::read());
+        image(&word[..n], i, a);
     } else if cut::equal(command, b"hex") {
-        hex(asked::read());
+        hex(&word[..n], i, a);
     } else if cut::equal(command, b"raw") {
-        raw(asked::read());
+        raw(&word[..n], i, a);
     } else if cut::equal(command, b"help") {
         help::show_all();
     } else {
@@ -65,5 +72,5 @@ fn run(command: &[u8]) {
 fn main() {
     let mut command = [0u8; 16];
     let n = os::arg(1, &mut command);
-    run(&command[..n]);
+    run(&command[..n], 9, asked::nothing());
 }
