@@ -27,7 +27,8 @@ fn refuse_at(name: &[u8], words: &[u8], at: usize, number: usize)
     let mut text = [0u8; 64];
     let p = put::put_bytes(&mut text, 0, words);
     let q = put::put_bytes(&mut text, p, b" at ");
-    let e = put::put_hex6(&mut text, q, (at % 16777216) as u32);
+    let r = put::put_hex2(&mut text, q, (at / 65536 % 256) as u8);
+    let e = put::put_hex4(&mut text, r, (at % 65536) as u16);
     refuse(name, 0, &text[..e], number);
 }
 
