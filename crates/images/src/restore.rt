@@ -24,26 +24,31 @@ fn restore(name: &[u8], text: &[u8], hex: bool, target: Target, image: &mut [u8]
     }
 }
 
-fn image_in(
-    name: &[u8],
-    hex: bool,
-    target: Target,
-    text: &mut [u8],
-    image: &mut [u8],
-    out: &mut [u8],
-) {
-    let loaded = files::load(name, &mut *text);
-    match loaded {
-        Loaded::Bytes(n) => restore(name, &text[..n], hex, target, &mut *image, &mut *out),
+// A listing that was opened, read into the room for it and closed.
+fn restore_in(fd: i32, name: &[u8], hex: bool, target: Target, text: &mut [u8], image: &mut [u8]) {
+    if fd < 0 {
+        return;
+    }
+    let mut out = [0u8; 180236];
+    let filled = files::fill(fd, name, &mut *text, 0);
+    libc::close(fd);
+    match filled {
+        Loaded::Bytes(n) => restore(name, &text[..n], hex, target, &mut *image, &mut out),
         Loaded::Longer => too_long(name, text.len()),
         Loaded::Failed => {}
     }
 }
 
 // No line has fewer than 15 bytes of text for 4 of the image. Both fit the 8 MiB of stack that a program commonly has.
-pub fn image(name: &[u8], hex: bool, target: Target) {
+pub fn image(fd: i32, name: &[u8], hex: bool, target: Target) {
     let mut text = [0u8; 5242880];
     let mut image = [0u8; 1398102];
-    let mut out = [0u8; 180236];
-    image_in(name, hex, target, &mut text, &mut image, &mut out);
+    restore_in(fd, name, hex, target, &mut text, &mut image);
+}
+
+// The longest image's listing has fewer bytes than this text. Whoever calls it has seen to the stack.
+pub fn long_image(fd: i32, name: &[u8], hex: bool, target: Target) {
+    let mut text = [0u8; 134217728];
+    let mut image = [0u8; 8388608];
+    restore_in(fd, name, hex, target, &mut text, &mut image);
 }

@@ -50,8 +50,11 @@ fn is_last(i: usize) -> bool {
     count - 1 == i
 }
 
-// Whether they suit a command that takes these options and one file, which is argument i, the last.
+// Whether they suit a command that takes these options and one file, which is argument i, just read: it is whole, and the last.
 pub(crate) fn suits(a: Asked, i: usize, reduced: bool, hex: bool, raw: bool) -> bool {
+    if os::errno() != 0 {
+        return false;
+    }
     if a.unknown {
         return false;
     }

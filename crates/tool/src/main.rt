@@ -16,12 +16,21 @@ fn list(name: &[u8], i: usize, a: Asked) {
     }
 }
 
-fn image(name: &[u8], i: usize, a: Asked) {
+// A listing's descriptor, or -1, which was said.
+fn opened(name: &[u8], i: usize, a: Asked) -> i32 {
     if asked::suits(a, i, true, true, false) {
-        images::restore::image(name, a.hex, asked::target(a));
-    } else {
-        misused(b"usage: pirukames image [--reduced] [--hex] LISTING");
+        return files::open(name);
     }
+    misused(b"usage: pirukames image [--reduced] [--hex] LISTING");
+    -1
+}
+
+fn image(fd: i32, name: &[u8], a: Asked) {
+    images::restore::image(fd, name, a.hex, asked::target(a));
+}
+
+fn long_image(fd: i32, name: &[u8], a: Asked) {
+    images::restore::long_image(fd, name, a.hex, asked::target(a));
 }
 
 fn hex(name: &[u8], i: usize, a: Asked) {
@@ -57,7 +66,12 @@ fn run(command: &[u8], left: usize, a: Asked)
     } else if cut::equal(command, b"list") {
         list(&word[..n], i, a);
     } else if cut::equal(command, b"image") {
-        image(&word[..n], i, a);
+        let fd = opened(&word[..n], i, a);
+        if files::reaches(fd, 5242880) {
+            long_image(fd, &word[..n], a);
+        } else {
+            image(fd, &word[..n], a);
+        }
     } else if cut::equal(command, b"hex") {
         hex(&word[..n], i, a);
     } else if cut::equal(command, b"raw") {
