@@ -1,9 +1,10 @@
 // The listing of raw bytes as they are read, through one buffer.
 ghost use mathlib.Core.Path.{_≡_};
 ghost use mathlib.Core.Bool.{false};
-ghost use Prim.Native.Nat.{_+_, _≤_};
-ghost use lib.ListN.{length};
+ghost use Prim.Native.Nat.{_+_, _-_, _≤_};
+ghost use lib.ListN.{length, take, drop};
 ghost use Rattle.manual.specs.Lines.{limit};
+ghost use Rattle.put.specs.Put.{put};
 use crate::parts::show_last;
 use crate::parts::show_lines;
 use files::Got;
@@ -12,6 +13,7 @@ use files::say::refuse;
 // The bytes of a buffer from `at` to `end` are moved to its front.
 fn move_down(buf: &mut [u8], at: usize, end: usize)
     requires { ⌜ (at ≤ end) × (end ≤ length (now buf)) ⌝ }
+    ensures { λ _. ⌜ now (buf .exit) ≡ put (now (buf .entry)) 0 (take (end - at) (drop at (now (buf .entry)))) ⌝ }
 {
     let n = end - at;
     let mut i = 0;
