@@ -4,7 +4,7 @@ use mathlib.Core.Path.{_≡_, refl, sym}
 use mathlib.Core.Logic.{_⊎_, inl, inr}
 use mathlib.Core.Bool.{Bool, true, false}
 use mathlib.Core.List.{List, _++_}
-use Prim.Native.Nat.{ℕ, _/_, _≤_, _<_}
+use Prim.Native.Nat.{ℕ, _/_, _%_, _≤_, _<_}
 use native.Mathlib.Omega.{arith}
 use lib.Dec.{ltb, leb, eqb}
 use lib.ListN.{length, length-append, List·getD-append}
@@ -23,7 +23,7 @@ either-way P true x y p q = p refl
 either-way P false x y p q = q refl
 
 pub four-else : (i : ℕ) → i < 103 → (rowAt i .bytes ≡ 2 → ⊥) → rowAt i .bytes ≡ 4
-four-else i h n = go (eqb (formAt i / 524288) 0) (form-bytes i h)
+four-else i h n = go (eqb (formAt i / 524288 % 2) 0) (form-bytes i h)
   where
     go : (b : Bool) → pick b 2 4 ≡ rowAt i .bytes → rowAt i .bytes ≡ 4
     go true e = absurd (n (sym e))

@@ -59,9 +59,9 @@ module _ (flag : Bool) (bs : List ℕ) where
 
       -- what is not of two bytes is of four
       pub long : (bytesFrom (formAt i) ≡ 2 → ⊥) → _≡_ {A = ℕ} 4 (rowAt i .bytes)
-      long n = go (eqb (formAt i / 524288) 0) refl ∙ bytes-are i h
+      long n = go (eqb (formAt i / 524288 % 2) 0) refl ∙ bytes-are i h
         where
-          go : (t : Bool) → eqb (formAt i / 524288) 0 ≡ t → _≡_ {A = ℕ} 4 (pick (eqb (formAt i / 524288) 0) 2 4)
+          go : (t : Bool) → eqb (formAt i / 524288 % 2) 0 ≡ t → _≡_ {A = ℕ} 4 (pick (eqb (formAt i / 524288 % 2) 0) 2 4)
           go true e = absurd (n (rw e))
           go false e = rw e
 

@@ -7,7 +7,7 @@ use Rattle.avr.proofs.Unique.{one-answer}
 use Rattle.avr.specs.declared.Decoded.{Decoded}
 use Rattle.avr.specs.declared.Decoded.the-variants as decoded
 use Rattle.manual.specs.Answers.{ofDecoded}
-use Rattle.manual.specs.Decode.{decodes}
+use Rattle.manual.specs.Decode.{wordAt, decodes}
 use Rattle.decode.specs.Forms.{sregFrom, bytesFrom}
 
 decoded-injective : (a b : Decoded) → ofDecoded a ≡ ofDecoded b → a ≡ b
@@ -29,3 +29,6 @@ sreg-bit-unique p w = one-answer
 
 pub form-bytes-unique : (f a b : ℕ) → a ≡ bytesFrom f → b ≡ bytesFrom f → a ≡ b
 form-bytes-unique f = one-answer
+
+pub word-at-unique : (bs : List ℕ) (at a b : ℕ) → a ≡ wordAt bs at → b ≡ wordAt bs at → a ≡ b
+word-at-unique bs at = one-answer

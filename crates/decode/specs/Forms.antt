@@ -10,4 +10,4 @@ abbrev pub sregFrom : ℕ → ℕ → ℕ
 sregFrom p w = getD (0 ∷ w % 8 ∷ w / 16 % 8 ∷ []) p 0
 
 abbrev pub bytesFrom : ℕ → ℕ
-bytesFrom f = pick (eqb (f / 524288) 0) 2 4
+bytesFrom f = pick (eqb (f / 524288 % 2) 0) 2 4

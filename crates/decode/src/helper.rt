@@ -4,12 +4,8 @@ ghost use Prim.Native.Nat.{_+_, _<_};
 ghost use lib.ListN.{length};
 ghost use Rattle.manual.specs.Decode.{wordAt, decodes};
 ghost use Rattle.decode.specs.Forms.{sregFrom, bytesFrom};
-ghost use Rattle.decode.specs.Found.{Tables, ofFound, Known};
-use rows::spans::SPANS;
-use rows::tables::FORMS;
-use rows::tables::MASKS;
-use rows::tables::TARGETS;
-use rows::tables::VALUES;
+ghost use Rattle.decode.specs.Found.{ofFound, Known};
+use rows::helper::form_of;
 
 // The number of the SREG bit of a word, by the place that the form says.
 pub fn sreg_bit(place: u32, w: u16) -> u8
@@ -28,7 +24,7 @@ pub fn sreg_bit(place: u32, w: u16) -> u8
 pub fn form_bytes(form: u32) -> u8
     ensures { λ r. ⌜ r ≡ bytesFrom form ⌝ }
 {
-    if form / 524288 == 0 {
+    if form / 524288 % 2 == 0 {
         return 2;
     }
     4
@@ -41,7 +37,7 @@ fn wide(b: u8) -> u16
 }
 
 // The word at an offset, both of whose bytes are there.
-pub(crate) fn word_at(bytes: &[u8], at: usize) -> u16
+pub fn word_at(bytes: &[u8], at: usize) -> u16
     requires { ⌜ at + 1 < length (now bytes) ⌝ }
     ensures { λ r. ⌜ r ≡ wordAt (now (bytes .entry)) at ⌝ }
 {
@@ -50,50 +46,36 @@ pub(crate) fn word_at(bytes: &[u8], at: usize) -> u16
     wide(lo) + wide(hi) * 256
 }
 
-// What the bytes begin with: a row, by its place and its form, with the words and how many bytes they are; or what decoding refuses.
-// The form says the number of bytes too, but whoever walks on by it waits until the form is read: beside it, the number is known by the
-// branch that was taken.
+// What the bytes begin with: a row, by its place and its form, with the words; or what decoding refuses.
 pub enum Found {
     Row {
         row: usize,
         form: u32,
         word: u16,
         extra: u16,
-        length: usize,
     },
     InvalidOpcode(u16),
     Short(u8),
 }
 
-// The search that decoding and listing share. Whoever reads many instructions lends the tables once.
-pub fn find(
-    masks: &[u16; 103],
-    values: &[u16; 103],
-    targets: &[u8; 103],
-    spans: &[u16; 512],
-    forms: &[u32; 103],
-    bytes: &[u8],
-    flag: bool,
-) -> Found
-    requires { ⌜ Tables (now masks) (now values) (now targets) (now spans) (now forms) ⌝ }
+pub fn find(bytes: &[u8], flag: bool) -> Found
     ensures { λ r. ⌜ (ofFound r ≡ decodes flag (now (bytes .entry))) × Known r ⌝ }
 {
     if bytes.len() < 2 {
         return Found::Short(2);
     }
     let word = word_at(bytes, 0);
-    let row = rows::helper::scan(masks, values, targets, spans, word, flag);
+    let row = rows::find_row(word, flag);
     if 103 <= row {
         return Found::InvalidOpcode(word);
     }
-    let form = forms[row];
+    let form = form_of(row);
     if form_bytes(form) == 2 {
         return Found::Row {
             row,
             form,
             word,
             extra: 0,
-            length: 2,
         };
     }
     if bytes.len() < 4 {
@@ -105,13 +87,5 @@ pub fn find(
         form,
         word,
         extra,
-        length: 4,
     }
-}
-
-// The search for one instruction.
-pub fn find_one(bytes: &[u8], flag: bool) -> Found
-    ensures { λ r. ⌜ (ofFound r ≡ decodes flag (now (bytes .entry))) × Known r ⌝ }
-{
-    find(&MASKS, &VALUES, &TARGETS, &SPANS, &FORMS, bytes, flag)
 }

@@ -11,7 +11,7 @@ use avr::Decoded;
 use avr::Instruction;
 use avr::Target;
 use helper::Found;
-use helper::find_one;
+use helper::find;
 use helper::form_bytes;
 use helper::sreg_bit;
 
@@ -36,14 +36,13 @@ fn instruction(i: usize, form: u32, w: u16, e: u16) -> Instruction
 pub fn decode(bytes: &[u8], target: Target) -> Decoded
     ensures { λ r. ⌜ ofDecoded r ≡ decodes (target .has_16_bit_lds_sts) (now (bytes .entry)) ⌝ }
 {
-    let found = find_one(bytes, target.has_16_bit_lds_sts);
+    let found = find(bytes, target.has_16_bit_lds_sts);
     match found {
         Found::Row {
             row,
             form,
             word,
             extra,
-            length: _,
         } => Decoded::Instruction(instruction(row, form, word, extra)),
         Found::InvalidOpcode(word) => Decoded::InvalidOpcode(word),
         Found::Short(needed) => Decoded::Short(needed),

@@ -10,4 +10,4 @@ use Rattle.text.specs.Names.{nameList, nameBytes}
 use Rattle.listing.specs.Lent.{Lent}
 
 pub lent : Lent maskList valueList targetList spanList formList hexPairs nameBytes
-lent = record { tables = record { mask = refl; value = refl; target = refl; span = refl; form = refl }; pairs = refl; name = refl }
+lent = record { mask = refl; value = refl; target = refl; span = refl; form = refl; pairs = refl; name = refl }

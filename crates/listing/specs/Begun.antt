@@ -2,7 +2,7 @@
 use Prim.Native.Nat.{ℕ, _+_}
 use mathlib.Core.Bool.{not}
 use mathlib.Core.List.{List, [], _∷_, map}
-use lib.Dec.{ltb}
+use lib.Dec.{eqb, ltb}
 use Rattle.avr.specs.declared.Line.{Line}
 use Rattle.avr.specs.declared.Line.the-variants as line
 use Rattle.manual.specs.Choice.{pick, both}
@@ -13,6 +13,10 @@ use Rattle.manual.specs.Listing.{placed, printed}
 abbrev pub begunBy : ℕ → ℕ → List Line → List Line
 begunBy stop o [] = []
 begunBy stop o (l ∷ ls) = pick (both (ltb o stop) (not (isByte l))) (l ∷ begunBy stop (o + lengthOf l) ls) []
+
+-- how many bytes an instruction of two or four takes of those that are left: none if there are too few
+abbrev pub restLength : ℕ → ℕ → ℕ
+restLength n left = pick (eqb n 2) 2 (pick (ltb left 4) 0 4)
 
 -- bytes from an offset on, each a listing line ended by LF
 unfoldable pub tailText : ℕ → List ℕ → List ℕ

@@ -5,7 +5,8 @@ use mathlib.Core.List.{List}
 use lib.ListN.{length}
 use Rattle.avr.specs.declared.Line.{Line}
 use Rattle.manual.specs.Listing.{placed, printed}
-use Rattle.decode.specs.Found.{Tables}
+use Rattle.rows.specs.Columns.{maskList, valueList, targetList, formList}
+use Rattle.rows.specs.Spans.{spanList}
 use Rattle.text.specs.Names.{nameBytes}
 use Rattle.walk.specs.Theorems.{total}
 use Rattle.put.specs.Put.{Put}
@@ -13,7 +14,11 @@ use Rattle.put.specs.Pairs.{hexPairs}
 
 -- the lent tables are the columns of the rows and their spans, the hexadecimal pairs and the names
 pub record Lent (masks values targets spans forms hex names : List ℕ) : Type 0 where
-  pub tables : Tables masks values targets spans forms
+  pub mask : masks ≡ maskList
+  pub value : values ≡ valueList
+  pub target : targets ≡ targetList
+  pub span : spans ≡ spanList
+  pub form : forms ≡ formList
   pub pairs : hex ≡ hexPairs
   pub name : names ≡ nameBytes
 

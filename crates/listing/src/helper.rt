@@ -1,181 +1,27 @@
-// Listing lines written straight into a lent buffer that has room for them: for this project's own crates.
+// Listings written straight into a lent buffer that has room for them: for this project's own crates.
 ghost use mathlib.Core.Path.{_≡_};
-ghost use mathlib.Core.Bool.{true, false};
-ghost use mathlib.Core.List.{[], _∷_, _++_};
+ghost use mathlib.Core.Bool.{true};
+ghost use mathlib.Core.List.{[], _∷_};
 ghost use Prim.Native.Nat.{_+_, _-_, _*_, _<_, _≤_, min};
 ghost use lib.ListN.{length, drop};
-ghost use Rattle.avr.specs.declared.Line.the-variants as line;
-ghost use Rattle.manual.specs.Text.{chars, padded};
-ghost use Rattle.manual.specs.Lines.{limit, lineOf, lineAt, linesFrom};
+ghost use Rattle.manual.specs.Lines.{limit, lineAt};
 ghost use Rattle.manual.specs.Listing.{placed, printed, listing};
 ghost use Rattle.manual.specs.Archive.{endLine};
-ghost use Rattle.decode.specs.Found.{ofFound, Known};
-ghost use Rattle.text.specs.Names.{nameBytes};
 ghost use Rattle.walk.specs.Theorems.{total};
 ghost use Rattle.put.specs.Put.{Put};
-ghost use Rattle.put.specs.Pairs.{hexPairs};
-ghost use Rattle.listing.specs.Lent.{Lent, Wrote, Fitted};
-ghost use Rattle.walk.specs.Joining.{wholes};
-ghost use Rattle.listing.specs.Begun.{begunBy, tailText};
+ghost use Rattle.listing.specs.Lent.{Wrote, Fitted};
+ghost use Rattle.listing.specs.Begun.{tailText};
 ghost use Rattle.listing.specs.Parts.{partLines};
-use decode::helper::Found;
-use decode::helper::find;
-use put::lent::HEX;
-use put::lent::put_hex4;
-use put::lent::put_hex6;
-use put::put_both;
+use super::lines::put_one;
+use super::lines::put_span;
 use put::put_byte;
 use put::put_bytes;
 use put::put_count;
-use put::put_hex2;
-use rows::spans::SPANS;
-use rows::tables::FORMS;
-use rows::tables::MASKS;
-use rows::tables::TARGETS;
-use rows::tables::VALUES;
-use text::names::NAMES;
-use text::put_row;
 
 // Lines that were written: how many bytes of the image they take, and where the next text goes.
 pub struct Walked {
     pub length: usize,
     pub next: usize,
-}
-
-// The offset of a line, colon, space.
-fn put_head(hex: &[u8; 512], out: &mut [u8], o: usize, at: usize) -> usize
-    requires { ⌜ (now hex ≡ hexPairs) × (o + 8 ≤ length (now out)) × (at < 16777216) ⌝ }
-    ensures { λ r. ⌜ Put (now (out .entry)) o (padded 16 6 at ++ chars ": ") (now (out .exit)) r × (r ≡ o + 8) ⌝ }
-{
-    let p = put_hex6(hex, &mut *out, o, at as u32);
-    put_both(&mut *out, p, b':', b' ')
-}
-
-// A word that no row takes, and a byte, each as a line ended by LF.
-fn put_word(hex: &[u8; 512], out: &mut [u8], o: usize, at: usize, w: u16) -> usize
-    requires { ⌜ (now hex ≡ hexPairs) × (o + 30 ≤ length (now out)) × (at < 16777216) ⌝ }
-    ensures { λ r. ⌜ Wrote at (line.Word w ∷ []) (now (out .entry)) o (now (out .exit)) 2 r ⌝ }
-{
-    let p = put_head(hex, &mut *out, o, at);
-    let q = put_bytes(&mut *out, p, b".word $");
-    let r = put_hex4(hex, &mut *out, q, w);
-    put_byte(&mut *out, r, 10)
-}
-
-fn put_one(out: &mut [u8], o: usize, at: usize, b: u8) -> usize
-    requires { ⌜ (o + 18 ≤ length (now out)) × (at < 16777216) ⌝ }
-    ensures { λ r. ⌜ Wrote at (line.Byte b ∷ []) (now (out .entry)) o (now (out .exit)) 1 r ⌝ }
-{
-    let p = put_head(&HEX, &mut *out, o, at);
-    let q = put_bytes(&mut *out, p, b".byte $");
-    let r = put_hex2(&mut *out, q, b);
-    put_byte(&mut *out, r, 10)
-}
-
-// The line of what was found at an offset, ended by LF; nothing where bytes are missing.
-fn put_found(
-    hex: &[u8; 512],
-    names: &[u8; 770],
-    found: Found,
-    at: usize,
-    out: &mut [u8],
-    o: usize,
-) -> Walked
-    requires { ⌜ (now hex ≡ hexPairs) × (now names ≡ nameBytes) × Known found × (o + 32 ≤ length (now out)) × (at < 16777216) ⌝ }
-    ensures { λ r. ⌜ Wrote at (wholes (lineOf (ofFound found) 0 ∷ [])) (now (out .entry)) o (now (out .exit)) (r .length) (r .next) ⌝ }
-{
-    match found {
-        Found::Row {
-            row,
-            form,
-            word,
-            extra,
-            length,
-        } => {
-            let p = put_head(hex, &mut *out, o, at);
-            let q = put_row(hex, names, row, form, word, extra, &mut *out, p);
-            let next = put_byte(&mut *out, q, 10);
-            Walked { length, next }
-        }
-        Found::InvalidOpcode(w) => {
-            let next = put_word(hex, &mut *out, o, at, w);
-            Walked { length: 2, next }
-        }
-        Found::Short(_) => Walked { length: 0, next: o },
-    }
-}
-
-// The lines that begin from one place of an image on and before another, up to the first `.byte` line, each ended by LF. The image
-// stands at an offset `base`. A line takes 30 bytes at most, and 18 at most for each byte of the image; while it is written, two bytes more.
-fn put_lines(
-    masks: &[u16; 103],
-    values: &[u16; 103],
-    targets: &[u8; 103],
-    spans: &[u16; 512],
-    forms: &[u32; 103],
-    hex: &[u8; 512],
-    names: &[u8; 770],
-    image: &[u8],
-    base: usize,
-    from: usize,
-    stop: usize,
-    flag: bool,
-    out: &mut [u8],
-    o: usize,
-) -> Walked
-    requires { ⌜ Lent (now masks) (now values) (now targets) (now spans) (now forms) (now hex) (now names) ⌝ }
-    requires { ⌜ (base + length (now image) ≤ limit) × (from ≤ length (now image)) × (stop ≤ length (now image) - 1) × (o ≤ length (now out)) × (from < stop → o + 18 * (stop - from) + 14 ≤ length (now out)) ⌝ }
-    ensures { λ r. ⌜ Wrote (base + from) (begunBy stop from (linesFrom flag false (drop from (now (image .entry))))) (now (out .entry)) o (now (out .exit)) (r .length) (r .next) ⌝ }
-{
-    let mut at = from;
-    let mut next = o;
-    while at < stop {
-        let found = find(masks, values, targets, spans, forms, &image[at..], flag);
-        let w = put_found(hex, names, found, base + at, &mut *out, next);
-        next = w.next;
-        at = at + w.length;
-        if w.length == 0 {
-            return Walked {
-                length: at - from,
-                next,
-            };
-        }
-    }
-    Walked {
-        length: at - from,
-        next,
-    }
-}
-
-// The same, for whoever writes lines a few at a time or all at once: the inner function has this one caller and is inlined.
-fn put_span(
-    image: &[u8],
-    base: usize,
-    from: usize,
-    stop: usize,
-    flag: bool,
-    out: &mut [u8],
-    o: usize,
-) -> Walked
-    requires { ⌜ (base + length (now image) ≤ limit) × (from ≤ length (now image)) × (stop ≤ length (now image) - 1) × (o ≤ length (now out)) × (from < stop → o + 18 * (stop - from) + 14 ≤ length (now out)) ⌝ }
-    ensures { λ r. ⌜ Wrote (base + from) (begunBy stop from (linesFrom flag false (drop from (now (image .entry))))) (now (out .entry)) o (now (out .exit)) (r .length) (r .next) ⌝ }
-{
-    put_lines(
-        &MASKS,
-        &VALUES,
-        &TARGETS,
-        &SPANS,
-        &FORMS,
-        &HEX,
-        &NAMES,
-        image,
-        base,
-        from,
-        stop,
-        flag,
-        &mut *out,
-        o,
-    )
 }
 
 // The bytes of a slice, where there is room for them; where they would end.

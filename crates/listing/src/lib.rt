@@ -8,6 +8,7 @@ ghost use Rattle.manual.specs.Lists.{writesLine, lineLeft, lists, listLeft};
 ghost use Rattle.listing.specs.Parts.{ofPartListed, listsPart, partLeft};
 
 pub mod helper;
+mod lines;
 
 use avr::LineWritten;
 use avr::Listed;

@@ -25,7 +25,7 @@ use avr::Str;
 use avr::Strings;
 use avr::Target;
 use decode::helper::Found;
-use decode::helper::find_one;
+use decode::helper::find;
 use put::lent::HEX;
 use text::names::NAMES;
 
@@ -48,7 +48,7 @@ pub extern "C" fn avr_text(bytes: &[u8], flag: u8, out: &mut [u8]) -> u64
     ensures { λ r. ⌜ r ≡ coded (delivers (texts (isSet flag) (now (bytes .entry))) (now (out .entry))) ⌝ }
     ensures { λ r. ⌜ now (out .exit) ≡ delivered (texts (isSet flag) (now (bytes .entry))) (now (out .entry)) ⌝ }
 {
-    let found = find_one(bytes, flag != 0);
+    let found = find(bytes, flag != 0);
     match found {
         Found::InvalidOpcode(w) => 4294967296 + w as u64,
         Found::Short(n) => 2 * 4294967296 + n as u64,
@@ -57,7 +57,6 @@ pub extern "C" fn avr_text(bytes: &[u8], flag: u8, out: &mut [u8]) -> u64
             form,
             word,
             extra,
-            length: _,
         } => {
             let mut line = [0u8; 23];
             let n = text::put_row(&HEX, &NAMES, row, form, word, extra, &mut line, 0);

@@ -10,7 +10,7 @@ ghost use Rattle.reverse.specs.Listing.{printsAs, firstPasses};
 use avr::Str;
 use avr::Strings;
 use decode::helper::Found;
-use decode::helper::find_one;
+use decode::helper::find;
 use put::lent::HEX;
 use text::names::NAMES;
 
@@ -26,13 +26,12 @@ fn row_prints(i: usize, form: u32, w: u16, e: u16, line: &[u8]) -> bool
 fn bytes_print(bytes: &[u8], flag: bool, line: &[u8]) -> bool
     ensures { λ r. ⌜ r ≡ printsAs (decodes flag (now (bytes .entry))) (now (line .entry)) ⌝ }
 {
-    match find_one(bytes, flag) {
+    match find(bytes, flag) {
         Found::Row {
             row,
             form,
             word,
             extra,
-            length: _,
         } => row_prints(row, form, word, extra, line),
         Found::InvalidOpcode(_) => false,
         Found::Short(_) => false,

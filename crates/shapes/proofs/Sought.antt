@@ -3,7 +3,8 @@ use mathlib.Core.Path.{_≡_, refl}
 use mathlib.Core.List.{List, [], _∷_}
 use Prim.Native.Nat.{ℕ}
 use borrow.Author.Tests.{ne-eqb}
-use Rattle.shapes.specs.Pairs.{Pair, pair, pairNumber, seek}
+use Rattle.rows.specs.Kinds.{pairNumber}
+use Rattle.shapes.specs.Pairs.{Pair, pair, seek}
 
 abbrev pub NoneOf : List Pair → ℕ → Type 0
 NoneOf [] n = Unit

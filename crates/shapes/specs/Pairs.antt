@@ -1,11 +1,11 @@
--- The operands of a record by the pair of their kinds: the number of a pair, the pairs that rows have, and their text.
-use Prim.Native.Nat.{ℕ, _+_, _-_, _*_}
+-- The operands of a record by the pair of their kinds: the pairs that rows have, and their text.
+use Prim.Native.Nat.{ℕ}
 use mathlib.Core.List.{List, [], _∷_, _++_}
 use lib.Dec.{eqb}
 use Rattle.avr.specs.declared.Operand.{Operand}
 use Rattle.manual.specs.Choice.{pick}
 use Rattle.manual.specs.Text.{operandText, isNothing}
-use Rattle.rows.specs.Kinds.{kindValue}
+use Rattle.rows.specs.Kinds.{kindValue, pairNumber}
 
 -- one operand behind a blank, and two with a comma and a blank between
 abbrev pub one : List ℕ → List ℕ
@@ -25,10 +25,6 @@ pub record Pair : Type 0 where
 
 abbrev pub pair : ℕ → ℕ → Pair
 pair a b = record { first = a; second = b }
-
--- no two pairs that rows have share a number
-abbrev pub pairNumber : ℕ → ℕ → ℕ
-pairNumber a b = a * 3 + 31 - b
 
 -- those of the rows that have operands, by falling number
 unfoldable pub pairs : List Pair

@@ -50,7 +50,7 @@ use register::put_pair_immediate;
 use register::put_pairs;
 use register::put_registers;
 
-// See specs/Pairs.antt for the number of a pair.
+// The number of a pair is that of rows/specs/Kinds.antt.
 pub fn put_operands(hex: &[u8; 512], pair: u32, w: u16, e: u16, out: &mut [u8], o: usize) -> usize
     requires { ⌜ (now hex ≡ hexPairs) × (o + 17 ≤ length (now out)) ⌝ }
     ensures { λ r. ⌜ Put (now (out .entry)) o (operandsOf pair w e) (now (out .exit)) r ⌝ }

@@ -1,4 +1,4 @@
--- The operands of a row by the number of the pair of their kinds, which the code works out from the row's form.
+-- The operands of a row by the number of the pair of their kinds, which the row's form has in front.
 use mathlib.Core.Path.{_≡_, refl}
 use mathlib.Core.Bool.{Bool, true, false}
 use mathlib.Core.List.{[], _++_, append-nil}
@@ -10,10 +10,10 @@ use Rattle.manual.specs.Text.{chars, operandText, isNothing, led}
 use Rattle.rows.specs.Kinds.{kinds}
 use Rattle.rows.specs.Columns.{formOf, formAt}
 use Rattle.rows.proofs.Table.{agree}
-use Rattle.shapes.specs.Pairs.{one, two, operandsText, pairNumber, pairs, pairAt}
+use Rattle.shapes.specs.Pairs.{one, two, operandsText, pairs, pairAt}
 
 abbrev formPair : ℕ → ℕ
-formPair f = pairNumber (f / 128 % 32) (f / 4096 % 32)
+formPair f = f / 1048576
 
 -- one operand or two behind a name, as the manual's text has them
 pub operands-led : (a b : Operand) → led " " a (led ", " b []) ≡ operandsText a b

@@ -21,7 +21,7 @@ use Rattle.walk.specs.Theorems.{isEnd}
 use Rattle.walk.proofs.Along.{lineHere, takes, unroll, none-left}
 
 -- what is left from a position on, as the code lends it
-part-is : (image : List ℕ) (at : ℕ) → take (length image - at) (drop at image) ≡ drop at image
+pub part-is : (image : List ℕ) (at : ℕ) → take (length image - at) (drop at image) ≡ drop at image
 part-is image at = take-all (length image - at) (drop at image) (omega (arith, length-drop at image))
 
 pub first-left : (image : List ℕ) (at : ℕ) → getD (drop at image) 0 0 ≡ getD image at 0

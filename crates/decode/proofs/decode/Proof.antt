@@ -9,19 +9,18 @@ use Rattle.decode.proofs.decode.Tie as tie
 
 instruction-requires : tie.Need-instruction-requires
 instruction-requires c κs =
-    let k = (rw (c .before .found .given .1) at (c .before .before .before .find-one .ensures .1)) in
-    (k .0, k .1)
+    rw (c .before .found .given .1) at (c .before .before .before .find .ensures .1)
 
 returns : tie.Need-returns
 returns c =
     let f = c .before .before in
-    ap gives (c .instruction .ensures) ∙ ap ofFound (sym (f .found .given .1)) ∙ f .before .before .find-one .ensures .0
+    ap gives (c .instruction .ensures) ∙ ap ofFound (sym (f .found .given .1)) ∙ f .before .before .find .ensures .0
 
 returns-2 : tie.Need-returns-2
-returns-2 c = ap ofFound (sym (c .before .found2 .given .1)) ∙ c .before .before .before .find-one .ensures .0
+returns-2 c = ap ofFound (sym (c .before .found2 .given .1)) ∙ c .before .before .before .find .ensures .0
 
 returns-3 : tie.Need-returns-3
-returns-3 c = ap ofFound (sym (c .before .found3 .given .1)) ∙ c .before .before .before .find-one .ensures .0
+returns-3 c = ap ofFound (sym (c .before .found3 .given .1)) ∙ c .before .before .before .find .ensures .0
 
 pub decode-spec : {M : Type 1} → statement M
 decode-spec =

@@ -12,7 +12,6 @@ use Rattle.put.specs.Pairs.{hexPairs}
 use Rattle.text.specs.Names.{nameList, nameBytes}
 use Rattle.decode.specs.Found.{ofFound}
 use Rattle.put.proofs.Fit.{at-start, start-length}
-use Rattle.listing.proofs.Rooms.{row-known}
 use Rattle.listing.proofs.LentTables.{lent}
 use Rattle.pirukames.specs.Library.{ofText}
 use Rattle.pirukames.proofs.Coded.{same-text, through}
@@ -23,7 +22,7 @@ put-row-requires : tie.Need-put-row-requires
 unfolding rows kinds maskList valueList targetList formList spanList digit padded hexPairs mnemonic nameList nameBytes
 put-row-requires c κs =
     let f = c .before .before .before .before in
-    let k = row-known (f .found3 .given .1) (f .before .before .find-one .ensures .1) in
+    let k = rw (f .found3 .given .1) at (f .before .before .find .ensures .1) in
     (lent .pairs, lent .name, k .0, k .1, search needs)
 
 give-requires : tie.Need-give-requires
@@ -34,18 +33,18 @@ give-requires c κs =
 returns : tie.Need-returns
 returns c =
     let f = c .before in
-    through _ _ _ ofText (ap ofFound (sym (f .found .given .1)) ∙ f .before .before .find-one .ensures .0) (refl, refl)
+    through _ _ _ ofText (ap ofFound (sym (f .found .given .1)) ∙ f .before .before .find .ensures .0) (refl, refl)
 
 returns-2 : tie.Need-returns-2
 returns-2 c =
     let f = c .before in
-    through _ _ _ ofText (ap ofFound (sym (f .found2 .given .1)) ∙ f .before .before .find-one .ensures .0) (refl, refl)
+    through _ _ _ ofText (ap ofFound (sym (f .found2 .given .1)) ∙ f .before .before .find .ensures .0) (refl, refl)
 
 returns-3 : tie.Need-returns-3
 returns-3 c =
     let p = c .before .before .before .before .before .before in
     let f = p .before .before .before .before .before in
-    through _ _ _ ofText (ap ofFound (sym (f .found3 .given .1)) ∙ f .before .before .find-one .ensures .0)
+    through _ _ _ ofText (ap ofFound (sym (f .found3 .given .1)) ∙ f .before .before .find .ensures .0)
     (same-text _ _ _ (at-start (p .put-row .ensures .0)) (c .before .before .give .ensures))
 
 pub avr-text-spec : {M : Type 1} → statement M

@@ -4,16 +4,9 @@ use denote.Ref.{now}
 use borrow.Author.Needs.{needs}
 use Rattle.rows.specs.Columns.{formAt}
 use Rattle.decode.specs.Forms.{bytesFrom}
-use Rattle.rows.proofs.Forms.{form-in}
-use Rattle.decode.proofs.Shapes.{bytes-are}
-use Rattle.decode.proofs.Steps.{short-2, invalid, two, long, short-4, four}
+use Rattle.decode.proofs.Steps.{short-2, invalid, two, short-4, four}
 use Rattle.decode.proofs.helper.find.Statement.{statement}
 use Rattle.decode.proofs.helper.find.Tie as tie
-
-scan-requires : tie.Need-scan-requires
-scan-requires c κs =
-    let t = c .before .before .before .pre in
-    (t .mask, t .value, t .target, t .span)
 
 returns : tie.Need-returns
 returns c = let s = c .before .before in (short-2 (s .args .flag) (now (s .args .bytes)) (search needs), tt)
@@ -23,32 +16,32 @@ returns-2 c =
     let f = c .before in
     let w = f .before in
     let s = w .before .before .before in (
-      invalid (s .args .flag) (now (s .args .bytes)) (w .word-at .result) (f .scan .result) (search needs) (w .word-at .ensures) (f .scan .ensures) (search needs),
+      invalid (s .args .flag) (now (s .args .bytes)) (w .word-at .result) (f .find-row .result) (search needs) (w .word-at .ensures) (f .find-row .ensures) (search needs),
       tt,
     )
 
 returns-3 : tie.Need-returns-3
 returns-3 c =
     let b = c .before in
-    let f = b .before .before .before in
+    let k = b .before in
+    let f = k .before .before in
     let w = f .before in
     let s = w .before .before .before in
-    let k = form-in (f .scan .result) (search needs) (now (s .args .forms)) (s .pre .form) in
-    let l = sym (b .form-bytes .ensures ∙ ap bytesFrom k) ∙ c .if3 .taken in (
-      two (s .args .flag) (now (s .args .bytes)) (w .word-at .result) (f .scan .result) (search needs) (w .word-at .ensures) (f .scan .ensures) (search needs)
+    let l = sym (b .form-bytes .ensures ∙ ap bytesFrom (k .form-of .ensures)) ∙ c .if3 .taken in (
+      two (s .args .flag) (now (s .args .bytes)) (w .word-at .result) (f .find-row .result) (search needs) (w .word-at .ensures) (f .find-row .ensures) (search needs)
           l,
-      (search needs, k, sym l ∙ bytes-are _ (search needs)),
+      (search needs, k .form-of .ensures),
     )
 
 returns-4 : tie.Need-returns-4
 returns-4 c =
     let b = c .before .before in
-    let f = b .before .before .before in
+    let k = b .before in
+    let f = k .before .before in
     let w = f .before in
-    let s = w .before .before .before in
-    let k = form-in (f .scan .result) (search needs) (now (s .args .forms)) (s .pre .form) in (
-      short-4 (s .args .flag) (now (s .args .bytes)) (w .word-at .result) (f .scan .result) (search needs) (w .word-at .ensures) (f .scan .ensures) (search needs)
-          (λ e. c .before .if3 .left (b .form-bytes .ensures ∙ ap bytesFrom k ∙ e))
+    let s = w .before .before .before in (
+      short-4 (s .args .flag) (now (s .args .bytes)) (w .word-at .result) (f .find-row .result) (search needs) (w .word-at .ensures) (f .find-row .ensures) (search needs)
+          (λ e. c .before .if3 .left (b .form-bytes .ensures ∙ ap bytesFrom (k .form-of .ensures) ∙ e))
           (search needs),
       tt,
     )
@@ -57,18 +50,14 @@ returns-5 : tie.Need-returns-5
 returns-5 c =
     let t = c .before .before in
     let b = t .before in
-    let f = b .before .before .before in
+    let k = b .before in
+    let f = k .before .before in
     let w = f .before in
     let s = w .before .before .before in
-    let k = form-in (f .scan .result) (search needs) (now (s .args .forms)) (s .pre .form) in
-    let l : bytesFrom (formAt (f .scan .result)) ≡ 2 → ⊥ = λ e. t .if3 .left (b .form-bytes .ensures ∙ ap bytesFrom k ∙ e) in (
-      four (s .args .flag) (now (s .args .bytes)) (w .word-at .result) (f .scan .result) (search needs) (w .word-at .ensures) (f .scan .ensures) (search needs)
+    let l : bytesFrom (formAt (f .find-row .result)) ≡ 2 → ⊥ = λ e. t .if3 .left (b .form-bytes .ensures ∙ ap bytesFrom (k .form-of .ensures) ∙ e) in (
+      four (s .args .flag) (now (s .args .bytes)) (w .word-at .result) (f .find-row .result) (search needs) (w .word-at .ensures) (f .find-row .ensures) (search needs)
           l (search needs) (c .word-at2 .result) (c .word-at2 .ensures),
-      (
-        search needs,
-        k,
-        long (s .args .flag) (now (s .args .bytes)) (w .word-at .result) (f .scan .result) (search needs) (w .word-at .ensures) (f .scan .ensures) (search needs) l,
-      ),
+      (search needs, k .form-of .ensures),
     )
 
 pub find-spec : {M : Type 1} → statement M
@@ -77,10 +66,9 @@ find-spec =
     (tie.spec
     returns
     (λ c κs. search needs)
-    scan-requires
+    (λ c κs. search needs)
     returns-2
-    (λ c. search needs)
-    (λ c. search needs)
+    (λ c κs. search needs)
     (λ c κs. search needs)
     returns-3
     returns-4

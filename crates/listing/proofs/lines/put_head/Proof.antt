@@ -4,8 +4,8 @@ use native.Mathlib.Omega.{arith}
 use borrow.Author.Needs.{needs}
 use Rattle.put.proofs.Puts.{then}
 use Rattle.listing.proofs.Steps.{padded-length}
-use Rattle.listing.proofs.helper.put_head.Statement.{statement}
-use Rattle.listing.proofs.helper.put_head.Tie as tie
+use Rattle.listing.proofs.lines.put_head.Statement.{statement}
+use Rattle.listing.proofs.lines.put_head.Tie as tie
 
 put-both-requires : tie.Need-put-both-requires
 put-both-requires c κs =

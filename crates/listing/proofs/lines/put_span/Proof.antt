@@ -8,8 +8,8 @@ use Rattle.rows.specs.Spans.{spanList}
 use Rattle.put.specs.Pairs.{hexPairs}
 use Rattle.text.specs.Names.{nameList, nameBytes}
 use Rattle.listing.proofs.LentTables.{lent}
-use Rattle.listing.proofs.helper.put_span.Statement.{statement}
-use Rattle.listing.proofs.helper.put_span.Tie as tie
+use Rattle.listing.proofs.lines.put_span.Statement.{statement}
+use Rattle.listing.proofs.lines.put_span.Tie as tie
 
 put-lines-requires : tie.Need-put-lines-requires
 unfolding rows kinds maskList valueList targetList formList spanList digit padded hexPairs mnemonic nameList nameBytes
