@@ -12,17 +12,25 @@ use Rattle.manual.specs.Answers.{Answer, gives, refuses, tooLong}
 use Rattle.manual.specs.Room.{written}
 use Rattle.hex.specs.Hex.{most, sizeOf, laid}
 use Rattle.hex.specs.HexText.{hexOf, writes}
+use Rattle.files.specs.declared.Loaded.the-variants as loaded
 use Rattle.archive.specs.Archive.{lands}
-
--- an image of Intel HEX, since the lent one keeps its length
-pub laid-within : (a : Answer (List ℕ)) (lent after : List ℕ) {n : ℕ} → gives n ≡ sizeOf a → after ≡ laid a lent → length after ≡ length lent → n ≤ length lent
-laid-within (gives bs) lent after {n} e l k =
-    let m : n ≡ length bs = cc in
-    omega (arith, m, ap length l ∙ length-append bs (drop (length bs) lent))
-laid-within (refuses j vs) lent after e l k = absurd (let z : _≡_ {A = ℕ} 0 1 = cc in omega arith)
+use Rattle.images.specs.Image.{Loads}
 
 given-or-not : (k : ℕ) (vs : List ℕ) {n : ℕ} → _≡_ {A = Answer ℕ} (gives n) (refuses k vs) → ⊥
 given-or-not k vs e = let z : _≡_ {A = ℕ} 0 1 = cc in omega arith
+
+-- an image of Intel HEX lies inside the lent one, since this keeps its length
+pub hex-given : (a : Answer (List ℕ)) (lent after : List ℕ) {n : ℕ} → gives n ≡ sizeOf a → after ≡ laid a lent → length after ≡ length lent
+    → Loads a lent after (loaded.Bytes n)
+hex-given (gives bs) lent after {n} e l k =
+    let m : n ≡ length bs = cc in
+    record { within = omega (arith, m, ap length l ∙ length-append bs (drop (length bs) lent)); answer = ap loaded.Bytes m; image = l }
+hex-given (refuses j vs) lent after e l k = absurd (given-or-not j vs e)
+
+pub hex-refused : (a : Answer (List ℕ)) (lent after : List ℕ) {k : ℕ} {vs : List ℕ} → refuses k vs ≡ sizeOf a → after ≡ laid a lent
+    → Loads a lent after loaded.Failed
+hex-refused (gives bs) lent after {k} {vs} e l = absurd (given-or-not k vs (sym e))
+hex-refused (refuses j ws) lent after e l = record { within = tt; answer = refl; image = l }
 
 -- what is given only where there is room for it
 fits : (room size k : ℕ) (vs : List ℕ) {n : ℕ} → _≡_ {A = Answer ℕ} (gives n) (pick (ltb room size) (refuses k vs) (gives size)) → n ≤ room

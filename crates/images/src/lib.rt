@@ -1,9 +1,11 @@
 // The program's commands on images and listings: files in, listings, images or Intel HEX out. Every byte that is shown comes from a function
 // over slices of the crates below.
 ghost use mathlib.Core.Path.{_≡_};
+ghost use mathlib.Core.Bool.{true, false};
 ghost use lib.ListN.{length};
 ghost use Rattle.files.specs.Within.{Within};
 ghost use Rattle.images.specs.Kind.{isHex};
+ghost use Rattle.images.specs.Image.{imageOf, Loads};
 
 pub mod convert;
 pub mod lists;
@@ -37,7 +39,7 @@ pub fn is_hex(form: Form, bytes: &[u8]) -> bool
 
 // The image of a text of Intel HEX, or its refusal, which was said.
 pub fn read_hex(name: &[u8], text: &[u8], image: &mut [u8]) -> Loaded
-    ensures { λ r. ⌜ Within (length (now (image .entry))) r ⌝ }
+    ensures { λ r. ⌜ Loads (imageOf true (length (now (image .entry))) (now (text .entry))) (now (image .entry)) (now (image .exit)) r ⌝ }
 {
     let read = hex::read(text, &mut *image);
     match read {
@@ -55,7 +57,7 @@ pub fn read_hex(name: &[u8], text: &[u8], image: &mut [u8]) -> Loaded
 
 // A raw image is copied.
 fn read_raw(name: &[u8], bytes: &[u8], image: &mut [u8]) -> Loaded
-    ensures { λ r. ⌜ Within (length (now (image .entry))) r ⌝ }
+    ensures { λ r. ⌜ Loads (imageOf false (length (now (image .entry))) (now (bytes .entry))) (now (image .entry)) (now (image .exit)) r ⌝ }
 {
     if image.len() < bytes.len() {
         too_long(name, image.len());
@@ -66,7 +68,7 @@ fn read_raw(name: &[u8], bytes: &[u8], image: &mut [u8]) -> Loaded
 }
 
 fn read_image(name: &[u8], form: Form, bytes: &[u8], image: &mut [u8]) -> Loaded
-    ensures { λ r. ⌜ Within (length (now (image .entry))) r ⌝ }
+    ensures { λ r. ⌜ Loads (imageOf (isHex form (now (bytes .entry))) (length (now (image .entry))) (now (bytes .entry))) (now (image .entry)) (now (image .exit)) r ⌝ }
 {
     if is_hex(form, bytes) {
         read_hex(name, bytes, &mut *image)

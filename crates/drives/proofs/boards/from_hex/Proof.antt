@@ -6,7 +6,7 @@ use Rattle.drives.proofs.boards.from_hex.Statement.{statement}
 use Rattle.drives.proofs.boards.from_hex.Tie as tie
 
 inside : tie.Need-array-share-prefix-image
-inside c = let r = c .before .before .before .before in omega (arith, loaded-within (r .read-hex .result) (r .read-hex .ensures) (c .before .k .given .1))
+inside c = let r = c .before .before .before .before in omega (arith, loaded-within (r .read-hex .result) (r .read-hex .ensures .within) (c .before .k .given .1))
 
 pub from-hex-spec : {M : Type 1} → statement M
 from-hex-spec =

@@ -9,7 +9,7 @@ use Rattle.images.proofs.lists.list_text.Tie as tie
 array-share-prefix-image : tie.Need-array-share-prefix-image
 array-share-prefix-image c =
     let r = c .before .before .before .before in
-    omega (arith, loaded-within (r .read-hex .result) (r .read-hex .ensures) (c .before .n .given .1))
+    omega (arith, loaded-within (r .read-hex .result) (r .read-hex .ensures .within) (c .before .n .given .1))
 
 slice-aggregate-show-last : tie.Need-slice-aggregate-show-last
 slice-aggregate-show-last c = part-long _ (array-share-prefix-image (c .before))
@@ -18,7 +18,7 @@ show-last-requires : tie.Need-show-last-requires
 show-last-requires c κs =
     let k = c .before .before .before in
     let r = k .before .before .before in
-    let h = loaded-within (r .read-hex .result) (r .read-hex .ensures) (k .n .given .1) in
+    let h = loaded-within (r .read-hex .result) (r .read-hex .ensures .within) (k .n .given .1) in
     (first-fits 0 (k .n .given .0 .0) _ (omega (arith, h, r .before .before .large-buffer .ensures)), search needs)
 
 pub list-text-spec : {M : Type 1} → statement M
