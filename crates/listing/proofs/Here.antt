@@ -48,17 +48,18 @@ module _ (flag : Bool) (image : List ℕ) (at : ℕ) (short : length image ≤ l
     word-here h = answered _ (invalid flag (drop at image) w i two-left its-word its-row h)
 
     module _ (h : i < 103) where
-      module _ (form n e : ℕ) (hf : form ≡ formAt i) (hs : n ≡ restLength (bytesFrom form) (length image - at)) (he : e ≡ pick (eqb n 4) (wordAt image (at + 2)) 0) where
-        hn : n ≡ restLength (bytesFrom (formAt i)) (length image - at)
-        hn = hs ∙ ap (λ (f : ℕ). restLength (bytesFrom f) (length image - at)) hf
+      module _ (form n e : ℕ) (hf : form ≡ formAt i) (hn : n ≡ restLength (bytesFrom form) (length image - at)) (he : e ≡ pick (eqb n 4) (wordAt image (at + 2)) 0) where
+        -- by the row's own form
+        its-length : n ≡ restLength (bytesFrom (formAt i)) (length image - at)
+        its-length = hn ∙ ap (λ (f : ℕ). restLength (bytesFrom f) (length image - at)) hf
 
         -- bytes are missing
         pub cut-here : n ≡ 0 → isByte (lineAt flag image at false) ≡ true
         cut-here z = go (eqb (bytesFrom (formAt i)) 2) refl (ltb (length image - at) 4) refl
           where
             go : (b : Bool) → eqb (bytesFrom (formAt i)) 2 ≡ b → (c : Bool) → ltb (length image - at) 4 ≡ c → isByte (lineAt flag image at false) ≡ true
-            go true p c q = absurd (omega (arith, rw p at hn))
-            go false p false q = absurd (omega (arith, rw (p, q) at hn))
+            go true p c q = absurd (omega (arith, rw p at its-length))
+            go false p false q = absurd (omega (arith, rw (p, q) at its-length))
             go false p true q =
                 let few = ltb-true (length image - at) 4 q in
                 ap isByte (sym (answered _ (short-4 flag (drop at image) w i two-left its-word its-row h (eqb-false _ 2 p) (omega (arith, length-drop at image)))))
@@ -71,13 +72,13 @@ module _ (flag : Bool) (image : List ℕ) (at : ℕ) (short : length image ≤ l
                 → (line.Instruction (rowInstruction (rowAt i) w e) ≡ lineAt flag image at false) × (n ≡ rowAt i .bytes)
             go true p c q =
                 let k = eqb-true _ 2 p in
-                let two-bytes : n ≡ 2 = rw p at hn in
+                let two-bytes : n ≡ 2 = rw p at its-length in
                 let none : e ≡ 0 = rw two-bytes at he in
                 (rw none (answered _ (two flag (drop at image) w i two-left its-word its-row h k)), two-bytes ∙ sym k ∙ bytes-are i h)
-            go false p true q = absurd (z (rw (p, q) at hn))
+            go false p true q = absurd (z (rw (p, q) at its-length))
             go false p false q =
                 let k = eqb-false (bytesFrom (formAt i)) 2 p in
-                let four-bytes : n ≡ 4 = rw (p, q) at hn in
+                let four-bytes : n ≡ 4 = rw (p, q) at its-length in
                 let second : e ≡ wordAt image (at + 2) = rw four-bytes at he in
                 let room = ltb-false (length image - at) 4 q in (
                   answered _ (four flag (drop at image) w i two-left its-word its-row h k (omega (arith, length-drop at image)) e (second ∙ word-left image at 2)),

@@ -116,7 +116,7 @@ fn rest_of(form: u32, image: &[u8], at: usize) -> Rest
     }
 }
 
-// The place of the row of the word that a line before another place begins with, or 103.
+// The row of the word at a place, where that stands before `stop`; 103 where it does not, as where no row fits.
 fn row_at(
     masks: &[u16; 103],
     values: &[u16; 103],
