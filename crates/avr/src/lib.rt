@@ -1,8 +1,10 @@
 // The record of a decoded instruction, named and nested as yaxpeax-avr has it, and the answers that calls give.
+#![tactic(auto)]
+
 ghost use Rattle.std.specs.Prelude.{◌≡◌};
 ghost use Rattle.avr.specs.Codes.{sreg_of, sreg_number, opcode_of, number_of};
 
-#[derive(Drop)]
+#[derive(Clone, Copy)]
 pub enum SREGBit {
     C,
     Z,
@@ -14,7 +16,7 @@ pub enum SREGBit {
     I,
 }
 
-#[derive(Drop)]
+#[derive(Clone, Copy)]
 pub enum Opcode {
     ADC,
     ADD,
@@ -96,14 +98,14 @@ pub enum Opcode {
     XCH,
 }
 
-#[derive(Drop)]
+#[derive(Clone, Copy)]
 pub enum IndexRegister {
     X,
     Y,
     Z,
 }
 
-#[derive(Drop)]
+#[derive(Clone, Copy)]
 pub enum IndexRegisterModifier {
     Unchanged,
     PostIncrement,
@@ -111,7 +113,7 @@ pub enum IndexRegisterModifier {
     Displacement(u8),
 }
 
-#[derive(Drop)]
+#[derive(Clone, Copy)]
 pub enum Register {
     Register(u8),
     // a register pair rn+1:rn, where `low` holds n / 2
@@ -119,7 +121,7 @@ pub enum Register {
     IndexRegister(IndexRegister, IndexRegisterModifier),
 }
 
-#[derive(Drop)]
+#[derive(Clone, Copy)]
 pub enum Operand {
     Nothing,
     Register(Register),
@@ -134,7 +136,7 @@ pub enum Operand {
 }
 
 // The source's array of two operands is two fields: an array of enums can't stand in a struct.
-#[derive(Drop)]
+#[derive(Clone, Copy)]
 pub struct Instruction {
     pub opcode: Opcode,
     pub first: Operand,
@@ -142,13 +144,13 @@ pub struct Instruction {
     pub length: u8,
 }
 
-#[derive(Drop)]
+#[derive(Clone, Copy)]
 pub struct Target {
     pub has_16_bit_lds_sts: bool,
 }
 
 // What decoding answers: the record, the word that no row fits, or how many bytes are needed.
-#[derive(Drop)]
+#[derive(Clone, Copy)]
 pub enum Decoded {
     Instruction(Instruction),
     InvalidOpcode(u16),
@@ -157,7 +159,7 @@ pub enum Decoded {
 
 // A line of a listing: an instruction, the word that no row fits, one byte of what is left where decoding fell short, or none where
 // the image ends.
-#[derive(Drop)]
+#[derive(Clone, Copy)]
 pub enum Line {
     Instruction(Instruction),
     Word(u16),
@@ -166,21 +168,21 @@ pub enum Line {
 }
 
 // A state of the walk: the position, and whether the tail has begun.
-#[derive(Drop)]
+#[derive(Clone, Copy)]
 pub struct Place {
     pub at: usize,
     pub tail: bool,
 }
 
 // Whether a walk may begin.
-#[derive(Drop)]
+#[derive(Clone, Copy)]
 pub enum Begun {
     Ready,
     TooLong,
 }
 
 // What encoding answers: the two or four bytes, or that no bytes decode to the record.
-#[derive(Drop)]
+#[derive(Clone, Copy)]
 pub enum Encoded {
     Two(u8, u8),
     Four(u8, u8, u8, u8),
@@ -188,7 +190,7 @@ pub enum Encoded {
 }
 
 // What writing the text of a record answers: how many bytes it wrote, that no bytes decode to the record, or how many bytes it needs.
-#[derive(Drop)]
+#[derive(Clone, Copy)]
 pub enum Written {
     Done(usize),
     NoSuchRecord,
@@ -196,14 +198,14 @@ pub enum Written {
 }
 
 // A string of two bytes or of four.
-#[derive(Drop)]
+#[derive(Clone, Copy)]
 pub enum Str {
     Short(u8, u8),
     Long(u8, u8, u8, u8),
 }
 
 // What the reverse reading lists.
-#[derive(Drop)]
+#[derive(Clone, Copy)]
 pub enum Strings {
     None,
     One(Str),
@@ -211,7 +213,7 @@ pub enum Strings {
 }
 
 // What writing a listing line answers: how many bytes were written, how many are needed, or that there is no line.
-#[derive(Drop)]
+#[derive(Clone, Copy)]
 pub enum LineWritten {
     Done(usize),
     NoRoom(usize),
@@ -219,7 +221,7 @@ pub enum LineWritten {
 }
 
 // What listing an image answers: how many bytes were written, how many are needed, or that the image is too long.
-#[derive(Drop)]
+#[derive(Clone, Copy)]
 pub enum Listed {
     Done(usize),
     NoRoom(usize),
@@ -227,35 +229,35 @@ pub enum Listed {
 }
 
 // What reading a line as a frame answers: its flag and how many bytes its image has, or that it is no frame.
-#[derive(Drop)]
+#[derive(Clone, Copy)]
 pub enum Framed {
     Frame(bool, usize),
     BadFrame,
 }
 
 // What answering a frame's line answers: how many bytes it wrote, or how many it needs.
-#[derive(Drop)]
+#[derive(Clone, Copy)]
 pub enum Answered {
     Done(usize),
     NoRoom(usize),
 }
 
 // An opcode in numbers: its code, and the number of the SREG bit that four of the opcodes hold, 0 for the others.
-#[derive(Drop)]
+#[derive(Clone, Copy)]
 pub struct OpcodeNumber {
     pub code: u8,
     pub bit: u8,
 }
 
 // An operand in numbers: what it is, and its number.
-#[derive(Drop)]
+#[derive(Clone, Copy)]
 pub struct OperandNumber {
     pub class: u8,
     pub number: u32,
 }
 
 // A record in numbers.
-#[derive(Drop)]
+#[derive(Clone, Copy)]
 pub struct Numbers {
     pub opcode: OpcodeNumber,
     pub first: OperandNumber,

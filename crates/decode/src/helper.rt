@@ -46,7 +46,7 @@ pub fn word_at(bytes: &[u8], at: usize) -> u16
 }
 
 // What the bytes begin with: a row, by its place and its form, with the words; or what decoding refuses.
-#[derive(Drop)]
+#[derive(Clone, Copy)]
 pub enum Found {
     Row {
         row: usize,

@@ -1,4 +1,6 @@
 // Decoding: the record of the instruction that bytes begin with.
+#![tactic(auto)]
+
 ghost use Rattle.std.specs.Prelude.{◌≡◌, ◌<◌};
 ghost use Rattle.manual.specs.Answers.{of_decoded};
 ghost use Rattle.manual.specs.Decode.{row_instruction, decodes};

@@ -1,5 +1,7 @@
 // The commands over routines, traces and drives. Only arguments, files and messages stand here: what is printed comes from proved
 // functions over slices.
+#![tactic(auto)]
+
 mod args;
 mod boards;
 mod coverage;
@@ -18,7 +20,7 @@ pub use routines::measure_stack;
 pub use traces::replay_trace;
 
 // What an argument is as an offset.
-#[derive(Drop)]
+#[derive(Clone, Copy)]
 pub enum Offset {
     At(usize),
     NotOne,

@@ -6,7 +6,7 @@ use files::Got;
 use files::say::refuse;
 
 // How many bytes of a line were read, and its number from 1.
-#[derive(Drop)]
+#[derive(Clone, Copy)]
 pub(crate) struct Cut {
     pub count: usize,
     pub number: usize,

@@ -3,7 +3,7 @@ use crate::routines::measure_in;
 use crate::traces::replay_in;
 
 // What is done with the image that an argument names.
-#[derive(Drop)]
+#[derive(Clone, Copy)]
 pub(crate) enum Work {
     Stack {
         file: usize,

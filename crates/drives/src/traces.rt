@@ -8,7 +8,7 @@ use replay::Replayed;
 use step::Stop;
 
 // What the replay answers, or that a read failed.
-#[derive(Drop)]
+#[derive(Clone, Copy)]
 pub(crate) enum Played {
     To(Replayed),
     Failed,

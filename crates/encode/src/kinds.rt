@@ -9,7 +9,7 @@ use super::fields::{a5, a6, d2, d3, d4, d5, f6, k6, k7, k8, k12, q6, r3, r4, r5,
 use avr::OperandNumber;
 
 // The class of a kind's operands, and their numbers: from `low` to below `high`, in steps.
-#[derive(Drop)]
+#[derive(Clone, Copy)]
 pub struct Range {
     pub class: u8,
     pub low: u32,

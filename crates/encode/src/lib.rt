@@ -1,4 +1,6 @@
 // Encoding: the bytes of a record.
+#![tactic(auto)]
+
 ghost use Rattle.std.specs.Prelude.{◌≡◌};
 ghost use Rattle.manual.specs.Answers.{of_encoded, is_given};
 ghost use Rattle.manual.specs.Numbers.{numbers_of};
@@ -17,7 +19,7 @@ pub mod tables;
 use tables::STARTS;
 
 // The row that makes a record for a target, with the row's first word and its second, which is 0 where the row has none.
-#[derive(Drop)]
+#[derive(Clone, Copy)]
 pub enum Seat {
     Row { row: usize, word: u16, extra: u16 },
     None,

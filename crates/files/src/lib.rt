@@ -1,4 +1,6 @@
 // Files and messages: the one place that opens, reads, writes and says what is wrong. No contract can say which bytes are read or written.
+#![tactic(auto)]
+
 ghost use Rattle.std.specs.Prelude.{◌≤◌, length};
 ghost use Rattle.files.specs.Within.{ReadWithin, Within};
 
@@ -8,7 +10,7 @@ use libc::{STDIN_FILENO, STDOUT_FILENO};
 use say::fail;
 
 // One read: how many bytes, at least one; the end; or it failed, which was said.
-#[derive(Drop)]
+#[derive(Clone, Copy)]
 pub enum Got {
     Bytes(usize),
     End,
@@ -16,7 +18,7 @@ pub enum Got {
 }
 
 // A whole file: how many bytes it has; that it has more than there is room for; or opening or reading failed, which was said.
-#[derive(Drop)]
+#[derive(Clone, Copy)]
 pub enum Loaded {
     Bytes(usize),
     Longer,

@@ -1,12 +1,14 @@
 // The frame program: reads standard input and prints the listing of each frame. Only reading and writing stand here. A read or a write
 // that fails ends it with the system's words on standard error; a line that was cut so is not answered.
+#![tactic(auto)]
+
 ghost use Rattle.std.specs.Prelude.{◌≡◌, true, ◌≤◌, length};
 ghost use Rattle.frame.specs.Stream.{State, after};
 
 use libc::{STDIN_FILENO, STDOUT_FILENO};
 
 // The count of the line so far, and whether everything was written.
-#[derive(Drop)]
+#[derive(Clone, Copy)]
 struct Fed {
     count: usize,
     whole: bool,

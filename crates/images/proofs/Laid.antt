@@ -10,8 +10,8 @@ use lib.ListN.{length, drop, length-append}
 use Rattle.manual.specs.Choice.{pick}
 use Rattle.manual.specs.Answers.{Answer, gives, refuses, too_long}
 use Rattle.manual.specs.Room.{written}
-use Rattle.hex.specs.Hex.{most, size_of, laid}
-use Rattle.hex.specs.HexText.{hex_of, writes}
+use Rattle.ihex.specs.Hex.{most, size_of, laid}
+use Rattle.ihex.specs.HexText.{hex_of, writes}
 use Rattle.files.specs.declared.Loaded.TheVariants as loaded
 use Rattle.archive.specs.Archive.{lands}
 use Rattle.images.specs.Image.{Loads}

@@ -2,7 +2,7 @@
 use Rattle.std.specs.Prelude.{ℕ, ◌≡◌, Bool, List, ltb, length}
 use Rattle.manual.specs.Choice.{pick}
 use Rattle.manual.specs.Answers.{Answer, gives, refuses, too_long}
-use Rattle.hex.specs.Hex.{reads, laid}
+use Rattle.ihex.specs.Hex.{reads, laid}
 use Rattle.files.specs.declared.Loaded.{Loaded}
 use Rattle.files.specs.declared.Loaded.TheVariants as loaded
 use Rattle.files.specs.Within.{Within}

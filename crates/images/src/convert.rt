@@ -2,11 +2,11 @@
 use crate::Form;
 use files::say::refuse;
 use files::{Loaded, show};
-use hex::HexWritten;
+use ihex::HexWritten;
 
 // An image in Intel HEX, by way of a lent buffer.
 pub(crate) fn show_hex(name: &[u8], image: &[u8], out: &mut [u8]) {
-    let written = hex::write(image, &mut *out);
+    let written = ihex::write(image, &mut *out);
     match written {
         HexWritten::Done(n) => {
             show(&out[..n]);

@@ -1,5 +1,7 @@
 // The program's commands on images and listings: files in, listings, images or Intel HEX out. Every byte that is shown comes from a function
 // over slices of the crates below.
+#![tactic(auto)]
+
 ghost use Rattle.std.specs.Prelude.{◌≡◌, true, false, length};
 ghost use Rattle.files.specs.Within.{Within};
 ghost use Rattle.images.specs.Kind.{is_hex};
@@ -14,10 +16,10 @@ pub(crate) mod words;
 
 use files::Loaded;
 use files::say::{refuse, too_long};
-use hex::HexRead;
+use ihex::HexRead;
 
 // What a file holds: told by its first byte, or said outright.
-#[derive(Drop)]
+#[derive(Clone, Copy)]
 pub enum Form {
     Either,
     Hex,
@@ -39,7 +41,7 @@ pub fn is_hex(form: Form, bytes: &[u8]) -> bool
 pub fn read_hex(name: &[u8], text: &[u8], image: &mut [u8]) -> Loaded
     ensures { Loads (image_of true (length image.old) text.now) image.old image.new result }
 {
-    let read = hex::read(text, &mut *image);
+    let read = ihex::read(text, &mut *image);
     match read {
         HexRead::Done(n) => Loaded::Bytes(n),
         HexRead::Faulty(k, line) => {

@@ -9,7 +9,7 @@ use files::show;
 use listing::helper::{Walked, put_end, put_part};
 
 // How many bytes were listed, and whether their lines were written.
-#[derive(Drop)]
+#[derive(Clone, Copy)]
 pub(crate) struct Passed {
     pub(crate) at: usize,
     pub(crate) whole: bool,

@@ -21,7 +21,7 @@ fn move_down(buf: &mut [u8], at: usize, end: usize)
 }
 
 // Where the listing of a file stands: the buffer begins with `have` bytes of it from the offset `base` on.
-#[derive(Drop)]
+#[derive(Clone, Copy)]
 struct Place {
     base: usize,
     have: usize,

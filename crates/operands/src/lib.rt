@@ -1,4 +1,6 @@
 // The operands of a record: from a kind of the row tables, the first word and the second.
+#![tactic(auto)]
+
 ghost use Rattle.std.specs.Prelude.{◌≡◌, ◌*◌, ◌<◌, ◌≤◌, nat_abs};
 ghost use Rattle.manual.specs.Operands.{low_of, far_of};
 ghost use Rattle.rows.specs.Kinds.{kind_value};

@@ -1,5 +1,7 @@
 // A car's trace replayed: each frame is stepped and held against the frame after it. The trace is given whole, or in pieces as they are
 // read: `begin`, then `feed` for each piece, then `finish`.
+#![tactic(auto)]
+
 ghost use Rattle.std.specs.Prelude.{◌≡◌};
 ghost use Rattle.replay.specs.Trace.{replays};
 ghost use Rattle.replay.specs.Stream.{takes, ends, begins};
@@ -14,7 +16,7 @@ mod turn;
 
 // How many frames there are, which all agree; or what stopped the replay: the number of the line that is no frame, of the first frame that differs
 // from what the frame before it steps to, or of the frame whose step is refused, and why.
-#[derive(Drop)]
+#[derive(Clone, Copy)]
 pub enum Replayed {
     Agrees(usize),
     BadFrame(usize),
@@ -23,7 +25,7 @@ pub enum Replayed {
 }
 
 // A replay between two pieces of its trace: the line so far, the last frame, and the answer so far.
-#[derive(Drop)]
+#[derive(Clone, Copy)]
 pub struct Trace {
     pub line: [u8; 72],
     pub count: usize,

@@ -8,7 +8,7 @@ use spell::helper::{pair, put_spelt};
 use step::State;
 
 // A line read as a frame; where it is not good, the state says nothing.
-#[derive(Drop)]
+#[derive(Clone, Copy)]
 pub struct Traced {
     pub good: bool,
     pub state: State,

@@ -1,4 +1,6 @@
 // The opcode rows as constant tables, the search for the row of a word, and the number of words that the rows accept.
+#![tactic(auto)]
+
 ghost use Rattle.std.specs.Prelude.{◌≡◌, ◌<◌};
 ghost use Rattle.manual.specs.Rows.{rows, place};
 ghost use Rattle.manual.specs.Count.{accepted_words};

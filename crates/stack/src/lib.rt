@@ -1,5 +1,7 @@
 // The most stack bytes that a straight routine uses. `measure` walks a routine's lines; at a call line it measures the called routine
 // through `call`, with one level less.
+#![tactic(auto)]
+
 ghost use Rattle.std.specs.Prelude.{◌≡◌, ◌≤◌, length};
 ghost use Rattle.manual.specs.Lines.{limit};
 ghost use Rattle.stack.specs.Stack.{of_measured, larger, opens, call_at, deeper, routine, measures};
@@ -14,7 +16,7 @@ use turns::{Turn, turn_of};
 use walk::helper::Reach;
 
 // Why a routine is refused, in document 02's order.
-#[derive(Drop)]
+#[derive(Clone, Copy)]
 pub enum Why {
     NoEntry,
     NotDecoded,
@@ -27,7 +29,7 @@ pub enum Why {
 }
 
 // The stack bytes, refusal 5, or why a routine is refused and the offset of the line or of the entry that decided.
-#[derive(Drop)]
+#[derive(Clone, Copy)]
 pub enum Measured {
     Uses(usize),
     TooLong,

@@ -9,7 +9,7 @@ use avr::{Line, Operand};
 use walk::helper::{Reach, leads_to};
 
 // The walk goes on at a level, enters a routine, has returned or is refused.
-#[derive(Drop)]
+#[derive(Clone, Copy)]
 pub enum Turn {
     Level(usize),
     Calls(Reach),

@@ -1,4 +1,6 @@
 // One step of the car board's processor, from an offset, the registers and SREG, by value. A refused step hands the old ones back.
+#![tactic(auto)]
+
 ghost use Rattle.std.specs.Prelude.{◌≡◌, ◌<◌, ◌^◌, length};
 ghost use Rattle.walk.specs.Reach.{reached};
 ghost use Rattle.step.specs.Step.{leads, stopped, arrives, takes_effect, executes, steps};
@@ -14,7 +16,7 @@ mod operation;
 mod registers;
 
 // Why a step is refused, in document 02's order; a step that is not refused has moved.
-#[derive(Drop)]
+#[derive(Clone, Copy)]
 pub enum Stop {
     Moved,
     Offset,
@@ -24,7 +26,7 @@ pub enum Stop {
 }
 
 // An offset, the registers r0 to r31, and SREG.
-#[derive(Drop)]
+#[derive(Clone, Copy)]
 pub struct State {
     pub at: usize,
     pub registers: [u8; 32],
@@ -32,7 +34,7 @@ pub struct State {
 }
 
 // Whether a step moved, and the state after it; where it was refused, the state before it.
-#[derive(Drop)]
+#[derive(Clone, Copy)]
 pub struct Stepped {
     pub stop: Stop,
     pub state: State,

@@ -6,14 +6,14 @@ ghost use Rattle.step.specs.Effects.{of_outcome, of_effect};
 use crate::flags::{bit_of, difference_sreg, number, result_sreg, sum_sreg};
 
 // An operation's result, and SREG after it.
-#[derive(Drop)]
+#[derive(Clone, Copy)]
 pub struct Outcome {
     pub value: u8,
     pub sreg: u8,
 }
 
 // What an instruction does: its outcome goes to Rd and SREG, or to SREG alone; a jump is taken or not.
-#[derive(Drop)]
+#[derive(Clone, Copy)]
 pub enum Effect {
     Passes,
     Writes(Outcome),

@@ -4,7 +4,7 @@ use archive::ListingRead;
 use std::num::wrapping_add_u32;
 
 // How many changed texts were refused, how many are the text of another image that they gave, and how many gave anything else.
-#[derive(Drop)]
+#[derive(Clone, Copy)]
 struct Counts {
     refused: u32,
     others: u32,

@@ -1,5 +1,7 @@
 // Takes archived texts of images with every kind of line and of tail back to the bytes, for both targets; then texts that are no
 // image's; then one text with each of its bytes changed to every other in turn.
+#![tactic(auto)]
+
 mod back;
 mod damage;
 mod refused;

@@ -1,4 +1,6 @@
 // A test of coverage maps: lines visited and dropped, ranges written and read, maps joined, a picture. It prints what it tried.
+#![tactic(auto)]
+
 mod ranges;
 mod show;
 mod visits;

@@ -1,5 +1,7 @@
 // A test: decode, encode and decode again over every first word of both targets, and records that must be refused beside their nearest
 // neighbours that must not, addresses of the wrong kind among them. It prints what it tried.
+#![tactic(auto)]
+
 use avr::{Decoded, Encoded, Instruction, Numbers, Target};
 use encode::numbers::numbers_of;
 
@@ -52,7 +54,7 @@ fn judged(same: bool) -> u8 {
     2
 }
 
-#[derive(Drop)]
+#[derive(Clone, Copy)]
 struct Counts {
     same: u64,
     refused: u64,

@@ -2,7 +2,7 @@
 ghost use Rattle.std.specs.Prelude.{◌<◌};
 
 use crate::show::{print, print_answer, print_text};
-use hex::{HexRead, HexWritten};
+use ihex::{HexRead, HexWritten};
 use libc::STDOUT_FILENO;
 
 fn next(x: u32) -> u32
@@ -62,7 +62,7 @@ fn read(bytes: &[u8], text: &[u8], lent: &mut [u8]) {
     if text.len() == 0 {
         return;
     }
-    let answer = hex::read(text, &mut *lent);
+    let answer = ihex::read(text, &mut *lent);
     print(b", read: ");
     print_answer(answer);
     if let HexRead::Done(n) = answer {
@@ -77,7 +77,7 @@ fn write(image: &[u8], n: usize, text: &mut [u8], lent: &mut [u8]) {
     print(b" bytes into ");
     io::print_decimal(STDOUT_FILENO, text.len() as u64);
     print(b": ");
-    let m = print_written(hex::write(bytes, &mut *text));
+    let m = print_written(ihex::write(bytes, &mut *text));
     read(bytes, first(&*text, m), &mut *lent);
     print(b"\n");
 }

@@ -23,7 +23,7 @@ fn count(image: &[u8], b: u8) -> usize {
 
 // A text read into an image whose bytes were EE: how many are FF and EE afterwards, and the last sixteen.
 fn read(text: &[u8], image: &mut [u8]) {
-    let answer = hex::read(text, &mut *image);
+    let answer = ihex::read(text, &mut *image);
     print(b"into ");
     io::print_decimal(STDOUT_FILENO, image.len() as u64);
     print(b" bytes\n");

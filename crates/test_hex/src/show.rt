@@ -1,5 +1,5 @@
 // Texts, answers and bytes, printed.
-use hex::HexRead;
+use ihex::HexRead;
 use libc::STDOUT_FILENO;
 
 pub(crate) fn print(s: &[u8]) {
@@ -67,7 +67,7 @@ pub(crate) fn print_answer(answer: HexRead) {
 // A text read into eight bytes EE, and all eight afterwards.
 pub(crate) fn read(title: &[u8], text: &[u8]) {
     let mut image = [0xEEu8; 8];
-    let answer = hex::read(text, &mut image);
+    let answer = ihex::read(text, &mut image);
     print(title);
     print(b"\n");
     print_text(text);

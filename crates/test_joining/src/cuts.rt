@@ -12,7 +12,7 @@ const IMAGE: [u8; 64] = [
 ];
 
 // How many bytes of text a part's listing has, and how many bytes of the part it lists.
-#[derive(Drop)]
+#[derive(Clone, Copy)]
 pub(crate) struct Text {
     pub(crate) text: usize,
     pub(crate) bytes: usize,

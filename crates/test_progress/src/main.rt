@@ -1,5 +1,7 @@
 // Goes through an image of 4 MiB and asks for the held line count after each move, as a progress display does. Then for each byte of
 // standard input, up to 16, it counts the lines from 0, so that bench/count can time both.
+#![tactic(auto)]
+
 ghost use Rattle.std.specs.Prelude.{◌≤◌};
 
 use avr::{Place, Target};

@@ -1,6 +1,8 @@
 // Walks short images with a reader: it looks twice at each line and goes past it, twice past the end, then rewinds and looks again. Before
 // each look it prints the lines passed as the sum of instructions, .word lines and .byte lines, and behind each image the line count at the
 // same places, counted from 0. The images end in every way that an image can. Its stored output was worked out by hand from document 01.
+#![tactic(auto)]
+
 use avr::{Line, Place, Target, Written};
 use libc::STDOUT_FILENO;
 use reader::Reader;

@@ -1,5 +1,7 @@
 // A test: the reverse reading of the text of every first word of both targets, of document 01's cases, and of spellings that no record
 // has. It prints what it tried.
+#![tactic(auto)]
+
 mod lines;
 mod words;
 

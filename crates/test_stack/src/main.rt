@@ -1,5 +1,7 @@
 // A test of routines' stacks: routines that are measured, each refusal, which of two decides, and how deep and how wide calls go. It
 // prints what it tried. Refusal 5 is tried by tests/library.c, which can hold such an image.
+#![tactic(auto)]
+
 mod deep;
 mod measured;
 mod order;

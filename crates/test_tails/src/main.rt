@@ -1,5 +1,7 @@
 // Lists short images, most of which end in odd ways, decodes their first bytes, and says what it tried. Its stored output was worked
 // out by hand from document 01.
+#![tactic(auto)]
+
 ghost use Rattle.std.specs.Prelude.{◌≤◌};
 
 use avr::{Decoded, LineWritten, Listed, Target};

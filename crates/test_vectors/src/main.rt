@@ -1,6 +1,8 @@
 // Prints what decoding and text answer to every first word, for both targets, in the form that oracle/README.md gives. Its `stdout` is
 // what the Rust crate itself answers, with the listed differences applied, so that this program is held against the Rust with no Rust at
 // hand.
+#![tactic(auto)]
+
 use avr::{Decoded, Target, Written};
 use libc::STDOUT_FILENO;
 

@@ -2,7 +2,7 @@
 use avr::Target;
 use images::Form;
 
-#[derive(Drop)]
+#[derive(Clone, Copy)]
 pub(crate) struct Asked {
     pub(crate) reduced: bool,
     pub(crate) hex: bool,

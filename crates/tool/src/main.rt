@@ -1,4 +1,6 @@
 // The program for people: its first argument is a command, then come that command's options and files. Only arguments are read here.
+#![tactic(auto)]
+
 ghost use Rattle.std.specs.Prelude.{◌≤◌};
 
 mod asked;

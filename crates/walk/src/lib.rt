@@ -1,6 +1,8 @@
 // The walk over an image: what stands at a state, the step past it, and the count of lines. A state is a position and whether the
 // tail has begun. The reader goes by these, and counts by `pass`; a listing has a loop of its own (`listing::helper`), proved to write
 // the same lines.
+#![tactic(auto)]
+
 pub mod helper;
 
 ghost use Rattle.std.specs.Prelude.{◌≡◌, ◌+◌, ◌^◌, ◌<◌};
@@ -12,7 +14,7 @@ ghost use Rattle.manual.specs.Choice.{pick};
 use avr::{Begun, Decoded, Line, Place, Target};
 
 // How many lines of each kind were passed. An image has no more than 8,388,608 lines, so these never come to an end.
-#[derive(Drop)]
+#[derive(Clone, Copy)]
 pub struct Counts {
     pub instructions: u32,
     pub words: u32,
@@ -20,7 +22,7 @@ pub struct Counts {
 }
 
 // What a pass answers.
-#[derive(Drop)]
+#[derive(Clone, Copy)]
 pub struct Passed {
     pub place: Place,
     pub counts: Counts,

@@ -2,8 +2,8 @@
 use mathlib.Core.Path.{◌∙◌, sym, ap}
 use borrow.Author.Rules.{rules}
 use lib.ListN.{length}
-use Rattle.hex.specs.Hex.{reads}
-use Rattle.hex.specs.Answers.{of_hex_read}
+use Rattle.ihex.specs.Hex.{reads}
+use Rattle.ihex.specs.Answers.{of_hex_read}
 use Rattle.images.proofs.Laid.{hex-given, hex-refused}
 use Rattle.images.proofs.read_hex.Statement.{statement}
 use Rattle.images.proofs.read_hex.Tie as tie

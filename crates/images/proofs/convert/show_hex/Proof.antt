@@ -2,7 +2,7 @@
 use mathlib.Core.Path.{sym, ap, ◌∙◌}
 use Rattle.files.proofs.Within.{part-long}
 use native.Mathlib.Omega.{arith}
-use Rattle.hex.specs.Answers.{of_hex_written}
+use Rattle.ihex.specs.Answers.{of_hex_written}
 use Rattle.images.proofs.Laid.{written-within}
 use borrow.Author.Rules.{rules}
 use Rattle.images.proofs.convert.show_hex.Statement.{statement}

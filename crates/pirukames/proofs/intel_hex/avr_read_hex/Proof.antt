@@ -3,8 +3,8 @@ use mathlib.Core.Path.{sym, ap, ◌∙◌}
 use lib.ListN.{length}
 use native.Mathlib.Omega.{arith}
 use borrow.Author.Rules.{rules}
-use Rattle.hex.specs.Answers.{of_hex_read}
-use Rattle.hex.proofs.Small.{number_small}
+use Rattle.ihex.specs.Answers.{of_hex_read}
+use Rattle.ihex.proofs.Small.{number_small}
 use Rattle.pirukames.specs.Library.{coded}
 use Rattle.pirukames.proofs.intel_hex.avr_read_hex.Statement.{statement}
 use Rattle.pirukames.proofs.intel_hex.avr_read_hex.Tie as tie

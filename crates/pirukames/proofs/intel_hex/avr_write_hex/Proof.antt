@@ -2,8 +2,8 @@
 use mathlib.Core.Path.{sym, ap, ◌∙◌}
 use native.Mathlib.Omega.{arith}
 use borrow.Author.Rules.{rules}
-use Rattle.hex.specs.Answers.{of_hex_written}
-use Rattle.hex.proofs.Lengths.{asks-little}
+use Rattle.ihex.specs.Answers.{of_hex_written}
+use Rattle.ihex.proofs.Lengths.{asks-little}
 use Rattle.pirukames.specs.Library.{coded}
 use Rattle.pirukames.proofs.intel_hex.avr_write_hex.Statement.{statement}
 use Rattle.pirukames.proofs.intel_hex.avr_write_hex.Tie as tie
