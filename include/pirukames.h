@@ -1,4 +1,5 @@
-/* The proved AVR disassembler as a static library: `rt staticlib pirukames` writes target/staticlib/libpirukames.a (x86-64 Linux).
+/* The proved AVR disassembler as a static library (x86-64 Linux): `tools/library` proves and builds it and prints its path, which is
+ * crates/pirukames/out/libpirukames.a.
  *
  * Each function takes bytes, and a lent buffer for its output, as a pointer and a length. A length of 0 goes with any pointer. The two
  * must not overlap. `flag` is 0 for a target without 16-bit lds and sts, and anything else for one with them.
