@@ -5,7 +5,7 @@ use std::rt::Files;
 
 // Runs one of them on the words behind it. Whether something was refused and said that did not end it.
 pub(crate) fn run<'a>(
-    rt: &(impl Files + Input + Print + Eprint + AllocGlobal),
+    rt: &(impl Files + Input + Print + Eprint),
     command: &str,
     words: &'a [String],
 ) -> Result<bool, Failure<'a>> {
