@@ -1,11 +1,11 @@
 /* The proved AVR disassembler as a static library (x86-64 Linux): `tools/library` proves and builds it and prints its path, which is
  * crates/pirukames/out/libpirukames.a.
  *
- * Each function takes bytes, and a lent buffer for its output, as a pointer and a length. A length of 0 goes with any pointer. The two
- * must not overlap. `flag` is 0 for a target without 16-bit lds and sts, and anything else for one with them.
+ * Each function takes bytes, and the caller's buffer for its output, as a pointer and a length. A length of 0 goes with any pointer. The
+ * two must not overlap. `flag` is 0 for a target without 16-bit lds and sts, and anything else for one with them.
  *
  * The result is number * 2^32 + value: number 0 and the count of bytes written, or the number of one of the documents' refusals and its
- * value, 0 where it has none. A refusal writes nothing; bytes of the buffer behind the count are kept.
+ * value, 0 where it has none. A refusal writes nothing; bytes of the buffer after the count are kept.
  *
  *   1  no row for the target fits the first word      value: the word
  *   2  bytes are missing                              value: bytes needed, 2 or 4
@@ -17,10 +17,10 @@
  *   8  its bytes do not add up to 0                   value: the line's number
  *   9  its type is neither 00 nor 01                  value: the line's number
  *  10  it begins before the end of the last one       value: the line's number
- *  11  it goes beyond 65,536 or the lent image        value: the line's number
+ *  11  it goes beyond 65,536 or the caller's image    value: the line's number
  *  12  there is no end line
  *  13  no image of at most 8,388,608 bytes has that listing
- *  14  the lent image is too short                   value: bytes needed
+ *  14  the caller's image is too short               value: bytes needed
  *  20  a frame of a trace is not what the frame before it steps to
  *                                                     value: the frame's number, from 1
  *  21  a frame's offset is odd or outside the image   value: the frame's number
@@ -67,9 +67,9 @@ uint64_t avr_reverse(const uint8_t *line, size_t line_length, uint8_t flag, uint
 /* What the frame program prints for a line of hexadecimal digits, `bad frame` included. Refusal 3. 1,200 bytes of room are enough. */
 uint64_t avr_frame(const uint8_t *line, size_t line_length, uint8_t *out, size_t out_length);
 
-/* The image that a file of Intel HEX gives, types 00 and 01: the count is one past the last byte given, gaps read FF, and lent bytes
- * behind it are kept. Refusals 7 to 12: the first faulty line decides, on one line the lowest number, and 12 only where no line is
- * faulty. A line's number is at most 65,538. */
+/* The image that a file of Intel HEX gives, types 00 and 01: the count is one past the last byte given, gaps read FF, and bytes of
+ * the caller's image after it are kept. Refusals 7 to 12: the first faulty line decides, on one line the lowest number, and 12 only
+ * where no line is faulty. A line's number is at most 65,538. */
 uint64_t avr_read_hex(const uint8_t *text, size_t text_length, uint8_t *image, size_t image_length);
 
 /* The text of an image in Intel HEX: lines of 16 bytes, addresses from 0, each line ended by LF, and the end line. Refusals 5, above
@@ -117,7 +117,7 @@ uint64_t avr_write_picture(const uint8_t *map, size_t map_length, uint8_t *out, 
 
 /* The most stack bytes that the straight routine at an entry uses, above the level at its entry: pushes, and for each call 2 bytes and what
  * the called routine uses, at most sixteen calls deep. Refusals 5, and 30 to 37: the first in the order of the walk, a called routine before
- * the lines behind its call, and on one line the lowest. */
+ * the lines after its call, and on one line the lowest. */
 uint64_t avr_stack(const uint8_t *image, size_t image_length, uint8_t flag, uint32_t entry);
 
 #ifdef __cplusplus

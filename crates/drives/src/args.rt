@@ -1,5 +1,5 @@
 // Arguments: what looks like an option, and the names of files.
-use files::say::{Failure, fail};
+use files::say::Failure;
 use std::io;
 
 // Whether an argument looks like an option. One of more than 64 bytes is none.
@@ -10,10 +10,16 @@ pub(crate) fn is_option(word: &str) -> bool {
 // The system's error number for a file name that is too long.
 const TOO_LONG: i32 = 36;
 
-// An argument that names a file has at most 4,096 bytes.
+// A path has at most so many bytes.
+pub(crate) const LONGEST: usize = 4096;
+
+// An argument that names a file is a path.
 pub(crate) fn file_name<'a>(word: &'a str) -> Result<&'a str, Failure<'a>> {
-    if 4096 < word.len() {
-        return Err(fail("argument", io::Error::from_raw_os_error(TOO_LONG)));
+    if LONGEST < word.len() {
+        return Err(Failure::System {
+            name: "argument",
+            error: io::Error::from_raw_os_error(TOO_LONG),
+        });
     }
     Ok(word)
 }

@@ -1,5 +1,5 @@
 // The commands over routines, traces and drives.
-use files::say::{Failure, misused};
+use files::say::Failure;
 use std::io::Input;
 use std::rt::Files;
 
@@ -17,7 +17,7 @@ pub(crate) fn run<'a>(
             return drives::cover_map(rt, words);
         }
         _ => {
-            return Err(misused(crate::USAGE));
+            return Err(Failure::Misused(crate::USAGE));
         }
     }
     Ok(false)

@@ -1,0 +1,9 @@
+use mathlib.Core.Path.{◌≡◌}
+use lib.ListN.{length}
+use Rattle.frame.specs.LineSoFar.{state_of}
+use Rattle.frame.proofs.Steps.{Stands}
+use Rattle.frame.proofs.stream.LineSoFar.take_bytes.Given as goal
+
+abbrev pub invariant-loop-at : goal.invariant-loop-at
+invariant-loop-at l =
+    (length l.out ≡ length l.initial.out) × Stands l.last l.input (state_of l.initial.self) l.initial.out (state_of l.self) l.out l.at l.used
