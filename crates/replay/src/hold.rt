@@ -28,7 +28,10 @@ pub(crate) fn hold(
                 Err(ReplayError::Differs(m))
             }
         }
-        Err(why) => Err(ReplayError::Stopped { why, frame: k }),
+        Err(stopped) => Err(ReplayError::Stopped {
+            why: stopped.why,
+            frame: k,
+        }),
     }
 }
 

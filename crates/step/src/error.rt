@@ -1,6 +1,7 @@
 // Why a step is refused.
 ghost use Rattle.step.specs.StepError.{refused, distinct};
 
+use crate::State;
 use avr::{Refusal, Refused};
 use thiserror::Error;
 
@@ -38,4 +39,12 @@ impl Refusal for StepError {
             value: None,
         }
     }
+}
+
+/// A refused step: why, and the state that it gives back, which is the one that it began with.
+#[derive(Debug, Clone, Copy, PartialEq, Eq, Error)]
+#[error("{why}")]
+pub struct Stopped {
+    pub why: StepError,
+    pub state: State,
 }

@@ -8,13 +8,13 @@ use Rattle.frame.proofs.stream.LineSoFar.take_byte.Goals as goal
 pub returns-then-b-eq10 : goal.returns-then-b-eq10
 unfolding turned turn_text
 returns-then-b-eq10 c =
-    record { fact = rw (eq-eqb _ 10 c.if-b-eq10.true); put = rw (eq-eqb _ 10 c.if-b-eq10.true) c.put_state-next.ensures }
+    record { fact = rw (eq-eqb _ 10 c.if-b-eq10.true); put = rw (eq-eqb _ 10 c.if-b-eq10.true) c.put_state-used.ensures }
 
-pub returns-then-self-lt-LINE_ROOM : goal.returns-then-self-lt-LINE_ROOM
+pub returns-then-count-lt-LINE_ROOM : goal.returns-then-count-lt-LINE_ROOM
 unfolding turned turn_text
-returns-then-self-lt-LINE_ROOM c =
+returns-then-count-lt-LINE_ROOM c =
     record {
-      fact = rw (ne_eqb _ 10 c.if-b-eq10.false, lt-ltb _ 130 c.if-self-lt-LINE_ROOM.true);
+      fact = rw (ne_eqb _ 10 c.if-b-eq10.false, lt-ltb _ 130 c.if-count-lt-LINE_ROOM.true);
       put = rw (ne_eqb _ 10 c.if-b-eq10.false) (nothing _ _ (omega arith));
     }
 
@@ -22,6 +22,6 @@ pub returns : goal.returns
 unfolding turned turn_text
 returns c =
     record {
-      fact = rw (ne_eqb _ 10 c.if-b-eq10.false, le-ltb _ 130 c.if-self-lt-LINE_ROOM.false);
+      fact = rw (ne_eqb _ 10 c.if-b-eq10.false, le-ltb _ 130 c.if-count-lt-LINE_ROOM.false);
       put = rw (ne_eqb _ 10 c.if-b-eq10.false) (nothing _ _ (omega arith));
     }

@@ -12,7 +12,7 @@ loop-at-init c = (omega arith, stands-first _ _ _ _)
 pub loop-at-preserved : goal.loop-at-preserved
 loop-at-preserved c =
     let i = c.loop-at.invariant in
-    let z = c.take_byte-used.ensures in
+    let z = c.take_byte-turn.ensures in
     (omega arith, stands-next _ _ _ _ _ _ _ _ i.1 _ _ _ (search rules) (search rules) z.fact z.put)
 
 pub returns-then-last-used : goal.returns-then-last-used

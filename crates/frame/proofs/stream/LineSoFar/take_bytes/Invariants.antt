@@ -6,4 +6,5 @@ use Rattle.frame.proofs.stream.LineSoFar.take_bytes.Given as goal
 
 abbrev pub invariant-loop-at : goal.invariant-loop-at
 invariant-loop-at l =
-    (length l.out ≡ length l.initial.out) × Stands l.last l.input (state_of l.initial.self) l.initial.out (state_of l.self) l.out l.at l.used
+    (length l.out ≡ length l.initial.out)
+    × Stands l.last l.input (state_of l.initial.self) l.initial.out (record { count = l.count; line = l.self.bytes }) l.out l.at l.used
