@@ -4,7 +4,7 @@ use mathlib.Core.Bool.{Bool}
 use mathlib.Core.List.{List}
 use Prim.Native.Nat.{ℕ, ◌≤◌, ◌<◌, ◌^◌}
 use native.Mathlib.Omega.{arith}
-use lib.ListN.{get_or}
+use lib.ListN.{length, get_or}
 use Rattle.std.specs.Prelude.{Result, Err, unwrap_or}
 use Rattle.std.specs.Result.{ForErr}
 use Rattle.manual.specs.Lists.{lists}
@@ -26,6 +26,13 @@ use Rattle.ihex.specs.declared.error.HexError.TheVariants as hex_error
 use Rattle.ihex.specs.HexError as hex_read
 use Rattle.ihex.specs.Hex.{reads, size_of}
 use Rattle.ihex.proofs.Small.{number_small}
+use Rattle.replay.specs.declared.error.ReplayError.{ReplayError}
+use Rattle.replay.specs.declared.error.ReplayError.TheVariants as replay_error
+use Rattle.replay.specs.ReplayError as replayed
+use Rattle.replay.specs.Answers.{of_replayed}
+use Rattle.replay.specs.Trace.{replays}
+use Rattle.replay.proofs.Small.{number_in, replay-within}
+use Rattle.manual.specs.Answers.{Answer}
 use Rattle.manual.specs.Text.{text_of}
 use Rattle.manual.specs.Decode.{row_instruction}
 use Rattle.manual.specs.Room.{written}
@@ -79,3 +86,15 @@ text_small f x buffer r h = λ e p.
     let n = asks_length _ _ e.needed (ap no_room.of_filled (sym p) ∙ h) in
     let small : e.needed < 2 ^ 63 = omega (arith, row-length f.row f.in_table f.word f.extra x) in
     small
+
+pub replayed_small : (image trace : List ℕ) → length trace < 2 ^ 63 → (r : Result ℕ ReplayError)
+    → of_replayed r ≡ replays image trace → ForErr r (λ e. unwrap_or (replayed.refused e).value 0 < 2 ^ 63)
+replayed_small image trace l r h = λ e p. go e (ap of_replayed (sym p) ∙ h)
+  where
+    within : (a : Answer ℕ) → a ≡ replays image trace → number_in a ≤ length trace
+    within a q = rw q (replay-within image trace)
+
+    go : (e : ReplayError) → of_replayed (Err e) ≡ replays image trace → unwrap_or (replayed.refused e).value 0 < 2 ^ 63
+    go (replay_error.BadFrame m) q = omega (arith, within _ q)
+    go (replay_error.Differs m) q = omega (arith, within _ q)
+    go (replay_error.Stopped w m) q = omega (arith, within _ q)

@@ -7,19 +7,23 @@ use Rattle.frame.proofs.Steps.{stands-first, stands-next, stands-full, stands-en
 use Rattle.frame.proofs.stream.LineSoFar.take_bytes.Goals as goal
 
 pub loop-at-init : goal.loop-at-init
-loop-at-init c = (omega arith, stands-first _ _ _ _)
+loop-at-init c = (omega arith, omega arith, stands-first _ _ _ _)
 
 pub loop-at-preserved : goal.loop-at-preserved
 loop-at-preserved c =
     let i = c.loop-at.invariant in
     let z = c.take_byte-turn.ensures in
-    (omega arith, stands-next _ _ _ _ _ _ _ _ i.1 _ _ _ (search rules) (search rules) z.fact z.put)
+    (omega arith, omega arith, stands-next _ _ _ _ _ _ _ _ i.2 _ _ _ (search rules) (search rules) z.fact z.put)
 
 pub returns-then-last-used : goal.returns-then-last-used
-returns-then-last-used c = let h = c.loop-at.invariant.1 in record { takes = stands-full _ _ _ _ _ _ _ _ h (search rules); state = h.state; text = h.text }
+returns-then-last-used c =
+    let i = c.loop-at.invariant in
+    let z = c.take_byte-turn.ensures in
+    let h = stands-next _ _ _ _ _ _ _ _ i.2 _ _ _ (search rules) (search rules) z.fact z.put in
+    record { takes = stands-full _ _ _ _ _ _ _ _ h (search rules); state = h.state; text = h.text }
 
 pub returns : goal.returns
 returns c =
-    let h = c.loop-at.invariant.1 in
+    let h = c.loop-at.invariant.2 in
     let e : length c.args.input.now ≡ c.loop-at.at = omega arith in
     rw e (record { takes = stands-end _ _ _ _ _ _ _ _ h (omega arith); state = h.state; text = h.text })
